@@ -1,0 +1,4 @@
+-- Document 01 as definitions, in its words and its order. A reader who believes these files knows what is proved.
+pub mod Bytes
+pub mod Form
+pub mod Reading
