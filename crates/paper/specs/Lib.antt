@@ -2,3 +2,7 @@
 pub mod Bytes
 pub mod Form
 pub mod Reading
+pub mod Rows
+pub mod Values
+pub mod Payments
+pub mod Refusals

@@ -1,1 +1,43 @@
-// Document 01 as definitions (specs/). The enums of the answers stand here, so that definitions can speak of them.
+// Document 01 as definitions (specs/). The enums of the answers stand here; specs/Answers.antt gives the paper's numbers for each of their cases.
+
+// Why a message is refused.
+pub enum Fault {
+    TableTooShort,
+    MessageTooLong,
+    NotOfTheForm { offset: usize },
+    NotAllowedThere { element: usize, offset: usize },
+    Missing { element: usize, offset: usize },
+    TooMany { element: usize, offset: usize },
+    EmptyOrTooLong { element: usize, offset: usize },
+    CharacterNotInTheSet { element: usize, offset: usize },
+    ValueNotAllowed { element: usize, offset: usize },
+    InPaymentAndBlock { element: usize, offset: usize },
+    InNeither { offset: usize },
+    BlockIdRepeated { offset: usize },
+    TotalTooLarge { offset: usize },
+    CountDiffers { element: usize, offset: usize },
+    SumDiffers { element: usize, offset: usize },
+}
+
+// What the reader says of a message.
+pub enum Verdict {
+    Accepted {
+        blocks: usize,
+        payments: usize,
+        cents: u64,
+    },
+    Refused(Fault),
+}
+
+// What is said of two messages and a list.
+pub enum Regrouping {
+    Accepted,
+    FirstRefused(Fault),
+    SecondRefused(Fault),
+    NumbersOfPaymentsDiffer,
+    ListNotOfTheForm,
+    CountNotTheNumberOfPayments,
+    OrdinalTooLarge { k: usize },
+    NamedBefore { k: usize },
+    FieldsDiffer { k: usize, field: usize },
+}

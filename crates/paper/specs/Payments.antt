@@ -1,0 +1,80 @@
+-- Blocks and payments of a message, and what a payment takes from its block. All of it reads the tree of a message over a table of rows.
+use Prim.Native.Nat.{ℕ, suc, _+_}
+use mathlib.Core.List.{List, [], _∷_, _++_, map}
+use mathlib.Core.Option.{Option, none, some}
+use mathlib.Core.Bool.{Bool, true, false}
+use Rattle.paper.specs.Bytes.{if_then_else_, same}
+use Rattle.paper.specs.Form.{Head, Element, Elements, holding-text, holding-elements, []ᵉ, _∷ᵉ_}
+use Rattle.paper.specs.Rows.{Row, row-of, head-of}
+use Rattle.paper.specs.Values.{cents}
+
+unfoldable pub text-of : Element → List ℕ
+text-of (holding-text h w) = w
+text-of (holding-elements h ts) = []
+
+unfoldable pub listed : Elements → List Element
+listed []ᵉ = []
+listed (t ∷ᵉ ts) = t ∷ listed ts
+
+unfoldable pub children : Element → List Element
+children (holding-text h w) = []
+children (holding-elements h ts) = listed ts
+
+-- A payment: its own element, its block and that block's number, from 0.
+pub record Payment : Type 0 where
+  pub own : Element
+  pub block : Element
+  pub block-number : ℕ
+
+module _ (table : List Row) where
+  -- of an element that is row `parent`, all children that are row k; and the first of them
+  unfoldable pub named : (parent k : ℕ) → List Element → List Element
+  named parent k [] = []
+  named parent k (t ∷ ts) =
+      if same (head-of t .name) (row-of table parent k .name) then t ∷ named parent k ts else named parent k ts
+
+  unfoldable pub all-of : (parent k : ℕ) → Element → List Element
+  all-of parent k t = named parent k (children t)
+
+  unfoldable pub child : (parent k : ℕ) → Element → Option Element
+  child parent k t = elim (all-of parent k t) [ [] ↦ none | u ∷ us ↦ some u ]
+
+  -- what stands at the end of a route of rows, from child to child
+  unfoldable pub follow : (parent : ℕ) → List ℕ → Element → Option Element
+  follow parent [] t = some t
+  follow parent (k ∷ ks) t = elim (child parent k t) [ none ↦ none | some u ↦ follow k ks u ]
+
+  unfoldable pub blocks : Element → List Element
+  blocks root = elim (child 1 2 root) [ none ↦ [] | some order ↦ all-of 2 10 order ]
+
+  -- a leaf of the header
+  unfoldable pub of-header : ℕ → Element → Option Element
+  of-header k root = follow 1 (2 ∷ 3 ∷ k ∷ []) root
+
+  unfoldable pub payments-of : (block-number : ℕ) → Element → List Payment
+  payments-of n b = map (λ t. record { own = t; block = b; block-number = n }) (all-of 10 37 b)
+
+  unfoldable pub payments-from : ℕ → List Element → List Payment
+  payments-from n [] = []
+  payments-from n (b ∷ bs) = payments-of n b ++ payments-from (suc n) bs
+
+  unfoldable pub payments : Element → List Payment
+  payments root = payments-from 0 (blocks root)
+
+  -- what stands at a route in the payment itself; in its block; in the payment or else in its block
+  unfoldable pub in-payment : List ℕ → Payment → Option Element
+  in-payment route p = follow 37 route (p .own)
+
+  unfoldable pub in-block : List ℕ → Payment → Option Element
+  in-block route p = follow 10 route (p .block)
+
+  unfoldable pub inherited : List ℕ → Payment → Option Element
+  inherited route p = elim (in-payment route p) [ some t ↦ some t | none ↦ in-block route p ]
+
+  -- the instructed amount in cents, and the exact sum of several
+  unfoldable pub amount-of : Payment → ℕ
+  amount-of p = elim (in-payment (41 ∷ 42 ∷ []) p) [ none ↦ 0 | some t ↦ cents (text-of t) ]
+
+  unfoldable pub sum-of : List Payment → ℕ
+  sum-of [] = 0
+  sum-of (p ∷ ps) = amount-of p + sum-of ps

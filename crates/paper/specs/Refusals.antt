@@ -1,0 +1,263 @@
+-- Refusals of a message. Stages run in this order, each over the whole message, if the earlier ones found nothing.
+use Prim.Native.Nat.{ℕ, suc, _+_, _^_}
+use mathlib.Core.List.{List, [], _∷_, _++_}
+use mathlib.Core.Option.{Option, none, some}
+use mathlib.Core.Bool.{Bool, true, false, _&&_, _||_, not}
+use lib.ListN.{length}
+use lib.Dec.{eqb, leb, ltb}
+use Rattle.paper.specs.Bytes.{if_then_else_, is, white, value-character, every, same}
+use Rattle.paper.specs.Form.{Head, Element, Elements, holding-text, holding-elements, []ᵉ, _∷ᵉ_}
+use Rattle.paper.specs.Reading.{Reading, root-is, stops-at, read}
+use Rattle.paper.specs.Rows.{Place, one, opt, plus, either, further, Holds, text, elements, Row, row-of, head-of}
+use Rattle.paper.specs.Values.{lies-from, allowed, number, cents}
+use Rattle.paper.specs.Payments.{Payment, text-of, child, all-of, blocks, of-header, payments, payments-of, in-payment, in-block, sum-of}
+
+-- A refusal's number, element and offset. `none` is no refusal.
+pub record Refusal : Type 0 where
+  pub number : ℕ
+  pub element : ℕ
+  pub offset : ℕ
+
+unfoldable pub refuse : (number element offset : ℕ) → Option Refusal
+refuse number element offset = some (record { number = number; element = element; offset = offset })
+
+-- the first of two that refuses
+unfoldable pub _or-else_ : Option Refusal → Option Refusal → Option Refusal
+_or-else_ (some r) later = some r
+_or-else_ none later = later
+
+infixr 20 _or-else_
+-- 14: the table has under 1,024 numbers. 1: over 32,768 bytes.
+unfoldable pub least-table : ℕ
+least-table = 1024
+
+unfoldable pub largest-message : ℕ
+largest-message = 32768
+
+unfoldable pub table-refusal : (table-length : ℕ) → Option Refusal
+table-refusal n = if ltb n least-table then refuse 14 0 0 else none
+
+unfoldable pub size-refusal : List ℕ → Option Refusal
+size-refusal s = if ltb largest-message (length s) then refuse 1 0 largest-message else none
+
+-- the place of the first byte that is not of a kind; the length where there is none
+unfoldable pub first-not : (ℕ → Bool) → List ℕ → ℕ
+first-not p [] = 0
+first-not p (b ∷ s) = if p b then suc (first-not p s) else 0
+
+-- 3 and 4, one walk in the order of the file, over any table of rows. At the leaves it asks a judgement, which is none for 3 and 4.
+-- The rows that may take a place, whether one of them must, and what is left of the place when one has.
+unfoldable pub rows-at : Place → List ℕ
+rows-at (one k) = k ∷ []
+rows-at (opt k) = k ∷ []
+rows-at (plus k) = k ∷ []
+rows-at (further k) = k ∷ []
+rows-at (either ks) = ks
+
+unfoldable pub required : Place → Bool
+required (one k) = true
+required (opt k) = false
+required (plus k) = true
+required (further k) = false
+required (either ks) = true
+
+unfoldable pub left-of : Place → List Place
+left-of (one k) = []
+left-of (opt k) = []
+left-of (plus k) = further k ∷ []
+left-of (further k) = further k ∷ []
+left-of (either ks) = []
+
+-- the first row that is missing (of a choice, its first), if something required is among these places
+unfoldable pub first-row : List ℕ → ℕ
+first-row [] = 0
+first-row (k ∷ ks) = k
+
+unfoldable pub missing : List Place → Option ℕ
+missing [] = none
+missing (p ∷ ps) = if required p then some (first-row (rows-at p)) else missing ps
+
+-- where the first of some elements stands
+unfoldable pub first-at : Elements → ℕ → ℕ
+first-at []ᵉ otherwise = otherwise
+first-at (t ∷ᵉ ts) otherwise = head-of t .at
+
+-- A child of this name: no place left takes it; or it comes too early, a required row not yet seen; or it is row k, with these places left.
+pub data Sought : Type 0 where
+  never : Sought
+  early : (first : ℕ) → Sought
+  found : (k : ℕ) → List Place → Sought
+
+unfoldable pub past : Place → Sought → Sought
+past p never = never
+past p (early first) = if required p then early (first-row (rows-at p)) else early first
+past p (found k left) = if required p then early (first-row (rows-at p)) else found k left
+
+-- 6 to 8 at one leaf, tried 6, 7, 8: it is empty or too long; a character is not in the set; the value is not allowed.
+unfoldable pub longest-of : Holds → ℕ
+longest-of (text longest) = longest
+longest-of (elements places) = 0
+
+unfoldable pub leaf-refusal : (parent : ℕ) → Row → Head → List ℕ → Option Refusal
+leaf-refusal parent r h w =
+    if not (lies-from 1 (longest-of (r .holds)) (length w)) then refuse 6 (r .row) (h .at) else
+    if not (every value-character w) then refuse 7 (r .row) (h .start + first-not value-character w) else
+    if every (is " ") w || not (allowed parent (r .row) (h .currency) w) then refuse 8 (r .row) (h .at) else none
+
+unfoldable pub no-judgement : (parent : ℕ) → Row → Head → List ℕ → Option Refusal
+no-judgement parent r h w = none
+
+unfoldable pub among-texts : List ℕ → List (List ℕ) → Bool
+among-texts w [] = false
+among-texts w (v ∷ vs) = same w v || among-texts w vs
+
+-- a refusal at a leaf, where the leaf's text is not as it should be
+unfoldable pub unless : (List ℕ → Bool) → (number row : ℕ) → Option Element → Option Refusal
+unless right number row none = none
+unless right number row (some t) = if right (text-of t) then none else refuse number row (head-of t .at)
+
+module _ (table : List Row) where
+  unfoldable pub named-in : (parent : ℕ) → List ℕ → (name : List ℕ) → Option ℕ
+  named-in parent [] name = none
+  named-in parent (k ∷ ks) name = if same name (row-of table parent k .name) then some k else named-in parent ks name
+
+  unfoldable pub seek : (parent : ℕ) → List Place → (name : List ℕ) → Sought
+  seek parent [] name = never
+  seek parent (p ∷ ps) name = elim (named-in parent (rows-at p) name) [ some k ↦ found k (left-of p ++ ps) | none ↦ past p (seek parent ps name) ]
+
+  module _ (judge : (parent : ℕ) → Row → Head → List ℕ → Option Refusal) where
+    unfoldable pub ends : List Place → (close : ℕ) → Option Refusal
+    ends places close = elim (missing places) [ some first ↦ refuse 4 first close | none ↦ none ]
+
+    unfoldable pub only-white : (row : ℕ) → List Place → Head → List ℕ → Option Refusal
+    only-white row places h w = if every white w then ends places (h .close) else refuse 3 row (h .start + first-not white w)
+
+    unfoldable mutual
+      pub walk : Element → (parent : ℕ) → Row → Option Refusal
+      walk (holding-text h w) parent r =
+          elim (r .holds) [ text longest ↦ judge parent r h w | elements places ↦ only-white (r .row) places h w ]
+      walk (holding-elements h ts) parent r =
+          elim (r .holds) [ text longest ↦ refuse 3 (r .row) (first-at ts (h .start)) | elements places ↦ walk-all ts (r .row) places (h .close) ]
+
+      pub walk-all : Elements → (row : ℕ) → List Place → (close : ℕ) → Option Refusal
+      walk-all []ᵉ row places close = ends places close
+      walk-all (t ∷ᵉ ts) row places close =
+          elim (seek row places (head-of t .name)) [
+            | never ↦ refuse 3 row (head-of t .at)
+            | early first ↦ refuse 4 first (head-of t .at)
+            | found k left ↦ walk t row (row-of table row k) or-else walk-all ts row left close
+          ]
+
+  -- 3 and 4: no judgement at the leaves.
+  unfoldable pub rows-refusal : Element → Option Refusal
+  rows-refusal root = walk no-judgement root 0 (row-of table 0 1)
+
+  -- 5: the 17th block or the 65th payment, whichever comes first.
+  unfoldable pub sixty-fifth : (payments-before : ℕ) → List Element → Option Refusal
+  sixty-fifth n [] = none
+  sixty-fifth n (t ∷ ts) = if eqb n 64 then refuse 5 37 (head-of t .at) else sixty-fifth (suc n) ts
+
+  unfoldable pub too-many : (blocks-before payments-before : ℕ) → List Element → Option Refusal
+  too-many b n [] = none
+  too-many b n (t ∷ ts) =
+      if eqb b 16 then refuse 5 10 (head-of t .at) else
+      (sixty-fifth n (all-of table 10 37 t) or-else too-many (suc b) (n + length (all-of table 10 37 t)) ts)
+
+  unfoldable pub limits-refusal : Element → Option Refusal
+  limits-refusal root = too-many 0 0 (blocks table root)
+
+  -- 6 to 8: the same walk, with that judgement at each leaf.
+  unfoldable pub values-refusal : Element → Option Refusal
+  values-refusal root = walk leaf-refusal root 0 (row-of table 0 1)
+
+  -- 9 and 10: one walk over payments, in each 16, 36, 34.
+  unfoldable pub in-both : ℕ → Payment → Option Refusal
+  in-both k p =
+      elim (in-payment table (k ∷ []) p) [
+        | none ↦ none
+        | some t ↦ elim (in-block table (k ∷ []) p) [ none ↦ none | some u ↦ refuse 9 k (head-of t .at) ]
+      ]
+
+  unfoldable pub in-neither : ℕ → Payment → Option Refusal
+  in-neither k p =
+      elim (in-payment table (k ∷ []) p) [
+        | some t ↦ none
+        | none ↦ elim (in-block table (k ∷ []) p) [ some u ↦ none | none ↦ refuse 10 k (head-of (p .own) .at) ]
+      ]
+
+  unfoldable pub usage : List Payment → Option Refusal
+  usage [] = none
+  usage (p ∷ ps) = in-both 16 p or-else in-neither 16 p or-else in-both 36 p or-else in-both 34 p or-else usage ps
+
+  unfoldable pub usage-refusal : Element → Option Refusal
+  usage-refusal root = usage (payments table root)
+
+  -- 11: a block id equal, byte for byte, to an earlier block's.
+  unfoldable pub repeated : (earlier : List (List ℕ)) → List Element → Option Refusal
+  repeated earlier [] = none
+  repeated earlier (b ∷ bs) =
+      elim (child table 10 11 b) [
+        | none ↦ repeated earlier bs
+        | some id ↦ if among-texts (text-of id) earlier then refuse 11 11 (head-of id .at) else repeated (text-of id ∷ earlier) bs
+      ]
+
+  unfoldable pub ids-refusal : Element → Option Refusal
+  ids-refusal root = repeated [] (blocks table root)
+
+  -- 21: the total of the amounts above 64 bits.
+  unfoldable pub total-refusal : Element → Option Refusal
+  total-refusal root = unless (λ w. ltb (sum-of table (payments table root)) (2 ^ 64)) 21 7 (of-header table 7 root)
+
+  -- 12 and 13: one walk: header count, header sum, then each block's count and sum. Header numbers cover the whole message.
+  unfoldable pub block-counts : (block-number : ℕ) → List Element → Option Refusal
+  block-counts n [] = none
+  block-counts n (b ∷ bs) =
+      unless (λ w. eqb (number w) (length (payments-of table n b))) 12 14 (child table 10 14 b) or-else
+      unless (λ w. eqb (cents w) (sum-of table (payments-of table n b))) 13 15 (child table 10 15 b) or-else block-counts (suc n) bs
+
+  unfoldable pub counts-refusal : Element → Option Refusal
+  counts-refusal root =
+      unless (λ w. eqb (number w) (length (payments table root))) 12 6 (of-header table 6 root) or-else
+      unless (λ w. eqb (cents w) (sum-of table (payments table root))) 13 7 (of-header table 7 root) or-else
+      block-counts 0 (blocks table root)
+
+  -- the stages over the tree of a message of the form
+  unfoldable pub tree-refusal : Element → Option Refusal
+  tree-refusal root =
+      rows-refusal root or-else limits-refusal root or-else values-refusal root or-else usage-refusal root or-else ids-refusal root or-else
+      total-refusal root or-else counts-refusal root
+
+-- What a message is answered: number, element, offset, blocks, payments, total cents. Refused: the refusal's three numbers and counts of zero.
+-- Accepted: the counts, with number, element and offset 0.
+pub record Answer : Type 0 where
+  pub number : ℕ
+  pub element : ℕ
+  pub offset : ℕ
+  pub blocks : ℕ
+  pub payments : ℕ
+  pub cents : ℕ
+
+unfoldable pub refused : Refusal → Answer
+refused r = record { number = r .number; element = r .element; offset = r .offset; blocks = 0; payments = 0; cents = 0 }
+
+unfoldable pub accepted : List Row → Element → Answer
+accepted table root =
+    record {
+      number = 0;
+      element = 0;
+      offset = 0;
+      blocks = length (blocks table root);
+      payments = length (payments table root);
+      cents = sum-of table (payments table root);
+    }
+
+unfoldable pub of-tree : List Row → Reading → Answer
+of-tree table (stops-at n) = refused (record { number = 2; element = 0; offset = n })
+of-tree table (root-is root) = elim (tree-refusal table root) [ some r ↦ refused r | none ↦ accepted table root ]
+
+-- The verdict on a message, where a table of so many numbers is lent; and where none is, as in a regrouping.
+unfoldable pub verdict-alone : List Row → List ℕ → Answer
+verdict-alone table s = elim (size-refusal s) [ some r ↦ refused r | none ↦ of-tree table (read s) ]
+
+unfoldable pub verdict : List Row → (table-length : ℕ) → List ℕ → Answer
+verdict table n s = elim (table-refusal n) [ some r ↦ refused r | none ↦ verdict-alone table s ]

@@ -1,0 +1,138 @@
+-- The rows. Children stand in this order; ? (`opt`) is at most one, + (`plus`) is one or more, / (`either`) is a choice of exactly one,
+-- the rest (`one`) exactly one. A number after a leaf is its longest length in bytes.
+use Prim.Native.Nat.{ℕ}
+use Prim.Native.String.{String}
+use mathlib.Core.List.{List, [], _∷_, List·Memᴰ}
+use mathlib.Core.Bool.{Bool, true, _&&_, _||_}
+use mathlib.Core.Path.{_≡_}
+use lib.Dec.{eqb}
+use Rattle.paper.specs.Bytes.{if_then_else_, bytes, white, Every}
+use Rattle.paper.specs.Form.{Head, Element, Elements, holding-text, holding-elements, []ᵉ, _∷ᵉ_}
+
+-- A place in a group's order, and the rows that may take it.
+pub data Place : Type 0 where
+  one opt plus : ℕ → Place
+  either : List ℕ → Place
+  -- what is left of `plus` once one has been seen: any number of further ones
+  further : ℕ → Place
+
+pub data Holds : Type 0 where
+  text : (longest : ℕ) → Holds
+  elements : List Place → Holds
+
+-- A row: its number, its name and what it holds. Where that depends on the group above, `under` is that group's row; elsewhere it is 0.
+pub record Row : Type 0 where
+  pub row : ℕ
+  pub under : ℕ
+  pub name : List ℕ
+  pub holds : Holds
+
+unfoldable pub leaf : ℕ → String → ℕ → Row
+leaf row name longest = record { row = row; under = 0; name = bytes name; holds = text longest }
+
+unfoldable pub group : ℕ → String → List Place → Row
+group row name places = record { row = row; under = 0; name = bytes name; holds = elements places }
+
+unfoldable pub group-under : ℕ → ℕ → String → List Place → Row
+group-under under row name places = record { row = row; under = under; name = bytes name; holds = elements places }
+
+unfoldable pub rows : List Row
+rows =
+    group 1 "Document" (one 2 ∷ []) ∷
+    group 2 "CstmrCdtTrfInitn" (one 3 ∷ plus 10 ∷ []) ∷
+    group 3 "GrpHdr" (one 4 ∷ one 5 ∷ one 6 ∷ one 7 ∷ one 8 ∷ []) ∷
+    leaf 4 "MsgId" 35 ∷
+    leaf 5 "CreDtTm" 19 ∷
+    leaf 6 "NbOfTxs" 15 ∷
+    leaf 7 "CtrlSum" 18 ∷
+    group 8 "InitgPty" (one 9 ∷ []) ∷
+    leaf 9 "Nm" 70 ∷
+    group 10 "PmtInf"
+    (one 11 ∷ one 12 ∷ opt 13 ∷ one 14 ∷ one 15 ∷ opt 16 ∷ one 22 ∷ one 24 ∷ one 26 ∷ one 29 ∷ opt 34 ∷ opt 36 ∷ plus 37 ∷ []) ∷
+    leaf 11 "PmtInfId" 35 ∷
+    leaf 12 "PmtMtd" 3 ∷
+    leaf 13 "BtchBookg" 5 ∷
+    leaf 14 "NbOfTxs" 15 ∷
+    leaf 15 "CtrlSum" 18 ∷
+    group 16 "PmtTpInf" (opt 17 ∷ one 18 ∷ opt 20 ∷ []) ∷
+    leaf 17 "InstrPrty" 4 ∷
+    group 18 "SvcLvl" (one 19 ∷ []) ∷
+    leaf 19 "Cd" 4 ∷
+    group 20 "CtgyPurp" (one 21 ∷ []) ∷
+    leaf 21 "Cd" 4 ∷
+    group 22 "ReqdExctnDt" (one 23 ∷ []) ∷
+    leaf 23 "Dt" 10 ∷
+    group 24 "Dbtr" (one 25 ∷ []) ∷
+    leaf 25 "Nm" 70 ∷
+    group 26 "DbtrAcct" (one 27 ∷ []) ∷
+    group 27 "Id" (one 28 ∷ []) ∷
+    leaf 28 "IBAN" 34 ∷
+    group 29 "DbtrAgt" (one 30 ∷ []) ∷
+    group-under 29 30 "FinInstnId" (either (31 ∷ 32 ∷ []) ∷ []) ∷
+    leaf 31 "BICFI" 11 ∷
+    group 32 "Othr" (one 33 ∷ []) ∷
+    leaf 33 "Id" 35 ∷
+    group 34 "UltmtDbtr" (one 35 ∷ []) ∷
+    leaf 35 "Nm" 70 ∷
+    leaf 36 "ChrgBr" 4 ∷
+    group 37 "CdtTrfTxInf"
+    (one 38 ∷ opt 16 ∷ one 41 ∷ opt 36 ∷ opt 34 ∷ opt 43 ∷ one 44 ∷ one 45 ∷ opt 46 ∷ opt 47 ∷ opt 48 ∷ []) ∷
+    group 38 "PmtId" (opt 39 ∷ one 40 ∷ []) ∷
+    leaf 39 "InstrId" 35 ∷
+    leaf 40 "EndToEndId" 35 ∷
+    group 41 "Amt" (one 42 ∷ []) ∷
+    leaf 42 "InstdAmt" 18 ∷
+    group 43 "CdtrAgt" (one 30 ∷ []) ∷
+    group-under 43 30 "FinInstnId" (one 31 ∷ []) ∷
+    group 44 "Cdtr" (one 25 ∷ []) ∷
+    group 45 "CdtrAcct" (one 27 ∷ []) ∷
+    group 46 "UltmtCdtr" (one 35 ∷ []) ∷
+    group 47 "Purp" (one 21 ∷ []) ∷
+    group 48 "RmtInf" (either (49 ∷ 50 ∷ []) ∷ []) ∷
+    leaf 49 "Ustrd" 140 ∷
+    group 50 "Strd" (one 51 ∷ []) ∷
+    group 51 "CdtrRefInf" (one 52 ∷ one 55 ∷ []) ∷
+    group 52 "Tp" (one 53 ∷ opt 54 ∷ []) ∷
+    group 53 "CdOrPrtry" (one 19 ∷ []) ∷
+    leaf 54 "Issr" 35 ∷
+    leaf 55 "Ref" 35 ∷ []
+
+-- Row k as it stands under a parent. (One that no table has would have no name, which no element can have.)
+unfoldable pub row-of : List Row → (parent k : ℕ) → Row
+row-of [] parent k = record { row = k; under = parent; name = []; holds = text 0 }
+row-of (r ∷ rs) parent k =
+    if eqb (r .row) k && (eqb (r .under) 0 || eqb (r .under) parent) then r else row-of rs parent k
+
+-- The rows of a group's children, in their order, are arranged as its places say.
+pub data Arranged : List Place → List ℕ → Type 0 where
+  end : Arranged [] []
+  exactly-one : {k : ℕ} {ps : List Place} {ks : List ℕ} → Arranged ps ks → Arranged (one k ∷ ps) (k ∷ ks)
+  there : {k : ℕ} {ps : List Place} {ks : List ℕ} → Arranged ps ks → Arranged (opt k ∷ ps) (k ∷ ks)
+  not-there : {k : ℕ} {ps : List Place} {ks : List ℕ} → Arranged ps ks → Arranged (opt k ∷ ps) ks
+  at-least-one : {k : ℕ} {ps : List Place} {ks : List ℕ} → Arranged (further k ∷ ps) ks → Arranged (plus k ∷ ps) (k ∷ ks)
+  one-further : {k : ℕ} {ps : List Place} {ks : List ℕ} → Arranged (further k ∷ ps) ks → Arranged (further k ∷ ps) (k ∷ ks)
+  no-further : {k : ℕ} {ps : List Place} {ks : List ℕ} → Arranged ps ks → Arranged (further k ∷ ps) ks
+  chosen : {k : ℕ} {choice : List ℕ} {ps : List Place} {ks : List ℕ} → List·Memᴰ k choice → Arranged ps ks → Arranged (either choice ∷ ps) (k ∷ ks)
+
+unfoldable pub head-of : Element → Head
+head-of (holding-text h w) = h
+head-of (holding-elements h ts) = h
+
+-- An element conforms to a row, over any table of rows: a leaf holds text that is right for it, a group holds children of rows that are arranged as
+-- it says, each named as its row and conforming to it.
+module _ (table : List Row) (Right : (parent : ℕ) → Row → Head → List ℕ → Type 0) where
+  unfoldable mutual
+    pub Conforms : Element → (parent : ℕ) → Row → Type 0
+    Conforms (holding-text h w) parent r =
+        elim (r .holds) [ text longest ↦ Right parent r h w | elements places ↦ Every white w × Arranged places [] ]
+    Conforms (holding-elements h ts) parent r =
+        elim (r .holds) [ text longest ↦ ⊥ | elements places ↦ (ks : List ℕ) × Arranged places ks × Conform ts (r .row) ks ]
+
+    pub Conform : Elements → (parent : ℕ) → List ℕ → Type 0
+    Conform []ᵉ parent ks = ks ≡ []
+    Conform (t ∷ᵉ ts) parent ks =
+        elim ks [
+          | [] ↦ ⊥
+          | k ∷ others ↦
+              (head-of t .name ≡ row-of table parent k .name) × Conforms t parent (row-of table parent k) × Conform ts parent others
+        ]
