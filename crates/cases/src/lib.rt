@@ -1,1 +1,1 @@
-// The P cases of document 01, under one theorem (specs/Cases.antt).
+// The cases that document 01 marks P, computed from the paper's definitions under one theorem (specs/Cases.antt, proofs/Proved.antt).

@@ -6,3 +6,8 @@ pub mod Rows
 pub mod Values
 pub mod Payments
 pub mod Refusals
+pub mod Accepted
+pub mod Table
+pub mod Fields
+pub mod Regrouping
+pub mod Answers

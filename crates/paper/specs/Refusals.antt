@@ -227,7 +227,28 @@ module _ (table : List Row) where
       rows-refusal root or-else limits-refusal root or-else values-refusal root or-else usage-refusal root or-else ids-refusal root or-else
       total-refusal root or-else counts-refusal root
 
--- What a message is answered: number, element, offset, blocks, payments, total cents. Refused: the refusal's three numbers and counts of zero.
+-- What comes of a message: a refusal, or acceptance, with the root of the message's tree.
+pub data Outcome : Type 0 where
+  refused-as : Refusal → Outcome
+  accepted-with : Element → Outcome
+
+unfoldable pub unless-refused : Option Refusal → Outcome → Outcome
+unless-refused (some r) otherwise = refused-as r
+unless-refused none otherwise = otherwise
+
+-- 2: the form, at the offset where the reading stops.
+unfoldable pub of-reading : List Row → Reading → Outcome
+of-reading table (stops-at n) = refused-as (record { number = 2; element = 0; offset = n })
+of-reading table (root-is root) = unless-refused (tree-refusal table root) (accepted-with root)
+
+-- where no table is lent, as in a regrouping; and where a table of so many numbers is
+unfoldable pub outcome-alone : List Row → List ℕ → Outcome
+outcome-alone table s = unless-refused (size-refusal s) (of-reading table (read s))
+
+unfoldable pub outcome : List Row → (table-length : ℕ) → List ℕ → Outcome
+outcome table n s = unless-refused (table-refusal n) (outcome-alone table s)
+
+-- The verdict: number, element, offset, blocks, payments, total cents. Refused: the refusal's three numbers and counts of zero.
 -- Accepted: the counts, with number, element and offset 0.
 pub record Answer : Type 0 where
   pub number : ℕ
@@ -240,24 +261,12 @@ pub record Answer : Type 0 where
 unfoldable pub refused : Refusal → Answer
 refused r = record { number = r .number; element = r .element; offset = r .offset; blocks = 0; payments = 0; cents = 0 }
 
-unfoldable pub accepted : List Row → Element → Answer
-accepted table root =
-    record {
-      number = 0;
-      element = 0;
-      offset = 0;
-      blocks = length (blocks table root);
-      payments = length (payments table root);
-      cents = sum-of table (payments table root);
-    }
+unfoldable pub accepted : (blocks payments cents : ℕ) → Answer
+accepted b p c = record { number = 0; element = 0; offset = 0; blocks = b; payments = p; cents = c }
 
-unfoldable pub of-tree : List Row → Reading → Answer
-of-tree table (stops-at n) = refused (record { number = 2; element = 0; offset = n })
-of-tree table (root-is root) = elim (tree-refusal table root) [ some r ↦ refused r | none ↦ accepted table root ]
-
--- The verdict on a message, where a table of so many numbers is lent; and where none is, as in a regrouping.
-unfoldable pub verdict-alone : List Row → List ℕ → Answer
-verdict-alone table s = elim (size-refusal s) [ some r ↦ refused r | none ↦ of-tree table (read s) ]
+unfoldable pub answer : List Row → Outcome → Answer
+answer table (refused-as r) = refused r
+answer table (accepted-with root) = accepted (length (blocks table root)) (length (payments table root)) (sum-of table (payments table root))
 
 unfoldable pub verdict : List Row → (table-length : ℕ) → List ℕ → Answer
-verdict table n s = elim (table-refusal n) [ some r ↦ refused r | none ↦ verdict-alone table s ]
+verdict table n s = answer table (outcome table n s)

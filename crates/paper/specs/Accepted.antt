@@ -1,0 +1,81 @@
+-- Acceptance, said without any order of checks (demand 2).
+use Prim.Native.Nat.{ℕ, _≤_, _<_, _^_}
+use mathlib.Core.List.{List, [], _∷_, List·Memᴰ}
+use mathlib.Core.Option.{Option, none, some}
+use mathlib.Core.Bool.{Bool, true}
+use mathlib.Core.Path.{_≡_}
+use mathlib.Core.Logic.{_⊎_}
+use lib.ListN.{length}
+use Rattle.paper.specs.Bytes.{is, value-character, Every}
+use Rattle.paper.specs.Form.{Head, Element, IsMessage}
+use Rattle.paper.specs.Rows.{Row, row-of, Conforms}
+use Rattle.paper.specs.Values.{allowed, number, cents}
+use Rattle.paper.specs.Payments.{Payment, text-of, child, blocks, of-header, payments, payments-of, in-payment, in-block, sum-of}
+use Rattle.paper.specs.Refusals.{longest-of, largest-message}
+
+-- Each of a list, and no two of a list alike.
+pub data All {A : Type 0} (P : A → Type 0) : List A → Type 0 where
+  all-none : All P []
+  all-more : {a : A} {rest : List A} → P a → All P rest → All P (a ∷ rest)
+
+pub data Distinct {A : Type 0} : List A → Type 0 where
+  distinct-none : Distinct []
+  distinct-more : {a : A} {rest : List A} → (List·Memᴰ a rest → ⊥) → Distinct rest → Distinct (a ∷ rest)
+
+-- Of any text; and of a text that is right for its row: its length, its characters, not spaces alone, its value.
+pub record AnyText (parent : ℕ) (r : Row) (h : Head) (w : List ℕ) : Type 0 where
+
+pub record RightText (parent : ℕ) (r : Row) (h : Head) (w : List ℕ) : Type 0 where
+  pub not-empty : 1 ≤ length w
+  pub not-too-long : length w ≤ longest-of (r .holds)
+  pub characters : Every value-character w
+  pub not-blank : Every (is " ") w → ⊥
+  pub value : allowed parent (r .row) (h .currency) w ≡ true
+
+-- something stands there; a leaf, if it stands there, says a number
+pub record There (o : Option Element) : Type 0 where
+  pub it : Element
+  pub is-it : o ≡ some it
+
+unfoldable pub Says : (List ℕ → ℕ) → Option Element → ℕ → Type 0
+Says means o n = (t : Element) → o ≡ some t → means (text-of t) ≡ n
+
+module _ (table : List Row) where
+  -- Row 16 stands in the payment or in its block, and none of 16, 36, 34 stands in both.
+  unfoldable pub NotBoth : ℕ → Payment → Type 0
+  NotBoth k p = There (in-payment table (k ∷ []) p) → There (in-block table (k ∷ []) p) → ⊥
+
+  pub record Used (p : Payment) : Type 0 where
+    pub somewhere : There (in-payment table (16 ∷ []) p) ⊎ There (in-block table (16 ∷ []) p)
+    pub type-once : NotBoth 16 p
+    pub charges-once : NotBoth 36 p
+    pub debtor-once : NotBoth 34 p
+
+  -- the texts of the blocks' ids
+  unfoldable pub ids : List Element → List (List ℕ)
+  ids [] = []
+  ids (b ∷ bs) = elim (child table 10 11 b) [ none ↦ ids bs | some t ↦ text-of t ∷ ids bs ]
+
+  -- A block's count and sum are the true number and the exact sum in cents of its payments; the header's are those of the message.
+  pub record BlockCounts (b : Element) : Type 0 where
+    pub count : Says number (child table 10 14 b) (length (payments-of table 0 b))
+    pub sum : Says cents (child table 10 15 b) (sum-of table (payments-of table 0 b))
+
+  pub record AcceptedTree (root : Element) : Type 0 where
+    pub rows : Conforms table AnyText root 0 (row-of table 0 1)
+    pub blocks-limit : length (blocks table root) ≤ 16
+    pub payments-limit : length (payments table root) ≤ 64
+    pub values : Conforms table RightText root 0 (row-of table 0 1)
+    pub usage : All Used (payments table root)
+    pub ids-distinct : Distinct (ids (blocks table root))
+    pub total-fits : sum-of table (payments table root) < 2 ^ 64
+    pub count : Says number (of-header table 6 root) (length (payments table root))
+    pub sum : Says cents (of-header table 7 root) (sum-of table (payments table root))
+    pub block-counts : All BlockCounts (blocks table root)
+
+  -- A message is accepted.
+  pub record Accepted (s : List ℕ) : Type 0 where
+    pub size : length s ≤ largest-message
+    pub root : Element
+    pub form : IsMessage s root
+    pub tree : AcceptedTree root

@@ -1,0 +1,46 @@
+-- The answers of the code are enums. This gives the paper's number and values for each of their cases.
+use Prim.Native.Nat.{ℕ}
+use Rattle.paper.specs.declared.Fault.{Fault}
+use Rattle.paper.specs.declared.Fault.the-variants.{TableTooShort, MessageTooLong, NotOfTheForm, NotAllowedThere, Missing, TooMany, EmptyOrTooLong, CharacterNotInTheSet, ValueNotAllowed, InPaymentAndBlock, InNeither, BlockIdRepeated, TotalTooLarge, CountDiffers, SumDiffers}
+use Rattle.paper.specs.declared.Verdict.{Verdict}
+use Rattle.paper.specs.declared.Verdict.the-variants.{Accepted, Refused}
+use Rattle.paper.specs.declared.Regrouping.{Regrouping}
+use Rattle.paper.specs.declared.Regrouping.the-variants as regrouping
+use Rattle.paper.specs.Refusals.{Refusal, Answer, refused, accepted, largest-message}
+use Rattle.paper.specs.Regrouping.{message-refused, answered}
+use Rattle.paper.specs.Regrouping as moves
+
+unfoldable pub numbered : (number element offset : ℕ) → Refusal
+numbered number element offset = record { number = number; element = element; offset = offset }
+
+unfoldable pub refusal-of : Fault → Refusal
+refusal-of TableTooShort = numbered 14 0 0
+refusal-of MessageTooLong = numbered 1 0 largest-message
+refusal-of (NotOfTheForm offset) = numbered 2 0 offset
+refusal-of (NotAllowedThere element offset) = numbered 3 element offset
+refusal-of (Missing element offset) = numbered 4 element offset
+refusal-of (TooMany element offset) = numbered 5 element offset
+refusal-of (EmptyOrTooLong element offset) = numbered 6 element offset
+refusal-of (CharacterNotInTheSet element offset) = numbered 7 element offset
+refusal-of (ValueNotAllowed element offset) = numbered 8 element offset
+refusal-of (InPaymentAndBlock element offset) = numbered 9 element offset
+refusal-of (InNeither offset) = numbered 10 16 offset
+refusal-of (BlockIdRepeated offset) = numbered 11 11 offset
+refusal-of (TotalTooLarge offset) = numbered 21 7 offset
+refusal-of (CountDiffers element offset) = numbered 12 element offset
+refusal-of (SumDiffers element offset) = numbered 13 element offset
+
+unfoldable pub answer-of : Verdict → Answer
+answer-of (Accepted blocks payments cents) = accepted blocks payments cents
+answer-of (Refused fault) = refused (refusal-of fault)
+
+unfoldable pub regrouping-of : Regrouping → moves.Answer
+regrouping-of regrouping.Accepted = answered 0 0 0
+regrouping-of (regrouping.FirstRefused fault) = message-refused 1 (refusal-of fault)
+regrouping-of (regrouping.SecondRefused fault) = message-refused 2 (refusal-of fault)
+regrouping-of regrouping.NumbersOfPaymentsDiffer = answered 15 0 0
+regrouping-of regrouping.ListNotOfTheForm = answered 16 0 0
+regrouping-of regrouping.CountNotTheNumberOfPayments = answered 17 0 0
+regrouping-of (regrouping.OrdinalTooLarge k) = answered 18 k 0
+regrouping-of (regrouping.NamedBefore k) = answered 19 k 0
+regrouping-of (regrouping.FieldsDiffer k field) = answered 20 k field

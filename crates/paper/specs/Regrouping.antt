@@ -1,0 +1,94 @@
+-- The regrouping list, and the answer to a regrouping.
+use Prim.Native.Nat.{ℕ, suc, _+_, _*_, _<_}
+use mathlib.Core.List.{List, [], _∷_, map}
+use mathlib.Core.Option.{Option, none, some}
+use mathlib.Core.Bool.{Bool, true, false, _&&_, not}
+use mathlib.Core.Path.{_≡_}
+use lib.ListN.{length, getD, take, drop}
+use lib.Dec.{eqb, ltb}
+use Rattle.paper.specs.Bytes.{if_then_else_, bytes, same}
+use Rattle.paper.specs.Form.{Element}
+use Rattle.paper.specs.Rows.{Row}
+use Rattle.paper.specs.Values.{among}
+use Rattle.paper.specs.Payments.{payments}
+use Rattle.paper.specs.Refusals.{Refusal, Outcome, refused-as, accepted-with, outcome-alone}
+use Rattle.paper.specs.Accepted.{Accepted, All, Distinct}
+use Rattle.paper.specs.Table.{Part, part-of}
+use Rattle.paper.specs.Fields.{Value, values-of, differ-from, field-part}
+
+-- File: `RGL`, 16-bit version 1, 16-bit count, then that many 16-bit ordinals, high byte first; no other byte.
+unfoldable pub add-first : ℕ → Option (List ℕ) → Option (List ℕ)
+add-first n none = none
+add-first n (some ns) = some (n ∷ ns)
+
+unfoldable pub numbers-16 : List ℕ → Option (List ℕ)
+numbers-16 [] = some []
+numbers-16 (high ∷ []) = none
+numbers-16 (high ∷ low ∷ s) = add-first (high * 256 + low) (numbers-16 s)
+
+unfoldable pub counted : List ℕ → Option (List ℕ)
+counted [] = none
+counted (version ∷ []) = none
+counted (version ∷ count ∷ ordinals) = if eqb version 1 && eqb count (length ordinals) then some ordinals else none
+
+unfoldable pub ordinals-of : List ℕ → Option (List ℕ)
+ordinals-of file =
+    if same (take 3 file) (bytes "RGL") then elim (numbers-16 (drop 3 file)) [ none ↦ none | some ns ↦ counted ns ] else none
+
+-- A message's refusal and whose (1 or 2); or number, k and the lowest differing field, all three 0 if accepted.
+pub data Answer : Type 0 where
+  message-refused : (whose : ℕ) → Refusal → Answer
+  answered : (number k field : ℕ) → Answer
+
+-- For each k: 18 ordinal too large, 19 named before, 20 fields differ.
+unfoldable pub pairing : (first : List (List Value)) (k : ℕ) (named : List ℕ) (ordinals : List ℕ) (second : List (List Value)) → Answer
+pairing first k named [] second = answered 0 0 0
+pairing first k named (o ∷ os) [] = answered 0 0 0
+pairing first k named (o ∷ os) (p ∷ ps) =
+    if not (ltb o (length first)) then answered 18 k 0 else
+    if among o named then answered 19 k 0 else
+    elim (differ-from 1 (getD first o []) p) [ some field ↦ answered 20 k field | none ↦ pairing first (suc k) (o ∷ named) os ps ]
+
+-- 15 numbers of payments differ, 16 file not of that form, 17 count not the number of payments.
+unfoldable pub of-payments : (first second : List (List Value)) (file : List ℕ) → Answer
+of-payments first second file =
+    if not (eqb (length first) (length second)) then answered 15 0 0 else
+    elim (ordinals-of file) [
+      | none ↦ answered 16 0 0
+      | some ordinals ↦ if eqb (length ordinals) (length first) then pairing first 0 [] ordinals second else answered 17 0 0
+    ]
+
+module _ (table : List Row) where
+  unfoldable pub all-values : Element → List (List Value)
+  all-values root = map (values-of table) (payments table root)
+
+  unfoldable pub of-outcomes : (first second : Outcome) (file : List ℕ) → Answer
+  of-outcomes (refused-as r) second file = message-refused 1 r
+  of-outcomes (accepted-with t) (refused-as r) file = message-refused 2 r
+  of-outcomes (accepted-with t) (accepted-with u) file = of-payments (all-values t) (all-values u) file
+
+  unfoldable pub regrouping : (first second file : List ℕ) → Answer
+  regrouping first second file = of-outcomes (outcome-alone table first) (outcome-alone table second) file
+
+  -- For 20 that field's text as the second message has it, otherwise the empty part at 0 of the second.
+  unfoldable pub differing-part : (first second file : List ℕ) → Part
+  differing-part first second file =
+      elim (regrouping first second file) [
+        | message-refused whose r ↦ part-of none
+        | answered number k field ↦
+            if eqb number 20 then field-part table (outcome-alone table second) k field else part-of none
+      ]
+
+  -- A regrouping is accepted, said plainly (demand 3): both messages are accepted and have equally many payments; the list is well formed and names every
+  -- payment of the first message once, in the order of the second; each payment so paired is equal in all seventeen fields.
+  pub record Regroups (first second file : List ℕ) : Type 0 where
+    pub first-accepted : Accepted table first
+    pub second-accepted : Accepted table second
+    pub ordinals : List ℕ
+    pub well-formed : ordinals-of file ≡ some ordinals
+    pub equally-many : length (payments table (first-accepted .root)) ≡ length (payments table (second-accepted .root))
+    pub names-each : length ordinals ≡ length (payments table (first-accepted .root))
+    pub within : All (λ o. o < length (payments table (first-accepted .root))) ordinals
+    pub once : Distinct ordinals
+    pub paired : (k : ℕ) → k < length ordinals
+        → getD (all-values (first-accepted .root)) (getD ordinals k 0) [] ≡ getD (all-values (second-accepted .root)) k []

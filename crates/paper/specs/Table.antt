@@ -1,0 +1,47 @@
+-- The table after acceptance.
+use Prim.Native.Nat.{ℕ, _-_, _*_, _/_, _%_}
+use mathlib.Core.List.{List, [], _∷_, _++_}
+use mathlib.Core.Option.{Option, none, some}
+use lib.ListN.{length, drop}
+use Rattle.paper.specs.Form.{Element}
+use Rattle.paper.specs.Rows.{Row, head-of}
+use Rattle.paper.specs.Payments.{Payment, payments, in-payment, in-block, inherited, amount-of}
+use Rattle.paper.specs.Refusals.{Outcome, refused-as, accepted-with}
+
+-- A part of the message: its start and its length. The part that an element holds; of one that is absent 0, 0.
+pub record Part : Type 0 where
+  pub start : ℕ
+  pub size : ℕ
+
+unfoldable pub part-of : Option Element → Part
+part-of none = record { start = 0; size = 0 }
+part-of (some t) = record { start = head-of t .start; size = head-of t .close - head-of t .start }
+
+unfoldable pub numbers-of-a-payment : ℕ
+numbers-of-a-payment = 16
+
+unfoldable pub two-numbers : Part → List ℕ
+two-numbers p = p .start ∷ p .size ∷ []
+
+module _ (table : List Row) where
+  -- Block from 0; start and length of end-to-end id, creditor IBAN, creditor name, ultimate debtor's name, contents of row 16, debtor IBAN (the last three
+  -- as inherited); whole euros; cents 0 to 99; offset of the payment's `<`.
+  unfoldable pub numbers-of : Payment → List ℕ
+  numbers-of p =
+      (p .block-number ∷ []) ++
+      (two-numbers (part-of (in-payment table (38 ∷ 40 ∷ []) p)) ++
+      (two-numbers (part-of (in-payment table (45 ∷ 27 ∷ 28 ∷ []) p)) ++
+      (two-numbers (part-of (in-payment table (44 ∷ 25 ∷ []) p)) ++
+      (two-numbers (part-of (inherited table (34 ∷ 35 ∷ []) p)) ++
+      (two-numbers (part-of (inherited table (16 ∷ []) p)) ++
+      (two-numbers (part-of (in-block table (26 ∷ 27 ∷ 28 ∷ []) p)) ++
+      (amount-of table p / 100 ∷ amount-of table p % 100 ∷ head-of (p .own) .at ∷ [])))))))
+
+  unfoldable pub all-numbers : List Payment → List ℕ
+  all-numbers [] = []
+  all-numbers (p ∷ ps) = numbers-of p ++ all-numbers ps
+
+  -- All later numbers keep their old values; after a refusal all numbers do.
+  unfoldable pub table-after : Outcome → (old : List ℕ) → List ℕ
+  table-after (refused-as r) old = old
+  table-after (accepted-with root) old = all-numbers (payments table root) ++ drop (numbers-of-a-payment * length (payments table root)) old
