@@ -10,7 +10,7 @@ use Rattle.paper.specs.Bytes.{is, value-character, Every}
 use Rattle.paper.specs.Form.{Head, Element, IsMessage}
 use Rattle.paper.specs.Rows.{Row, row-of, Conforms}
 use Rattle.paper.specs.Values.{allowed, number, cents}
-use Rattle.paper.specs.Payments.{Payment, text-of, child, blocks, of-header, payments, payments-of, in-payment, in-block, sum-of}
+use Rattle.paper.specs.Payments.{Payment, text-of, child, all-of, blocks, of-header, payments, in-payment, in-block, sum-of, total}
 use Rattle.paper.specs.Refusals.{longest-of, largest-message}
 
 -- Each of a list, and no two of a list alike.
@@ -58,8 +58,8 @@ module _ (table : List Row) where
 
   -- A block's count and sum are the true number and the exact sum in cents of its payments; the header's are those of the message.
   pub record BlockCounts (b : Element) : Type 0 where
-    pub count : Says number (child table 10 14 b) (length (payments-of table 0 b))
-    pub sum : Says cents (child table 10 15 b) (sum-of table (payments-of table 0 b))
+    pub count : Says number (child table 10 14 b) (length (all-of table 10 37 b))
+    pub sum : Says cents (child table 10 15 b) (sum-of table (all-of table 10 37 b))
 
   pub record AcceptedTree (root : Element) : Type 0 where
     pub rows : Conforms table AnyText root 0 (row-of table 0 1)
@@ -68,9 +68,9 @@ module _ (table : List Row) where
     pub values : Conforms table RightText root 0 (row-of table 0 1)
     pub usage : All Used (payments table root)
     pub ids-distinct : Distinct (ids (blocks table root))
-    pub total-fits : sum-of table (payments table root) < 2 ^ 64
+    pub total-fits : total table root < 2 ^ 64
     pub count : Says number (of-header table 6 root) (length (payments table root))
-    pub sum : Says cents (of-header table 7 root) (sum-of table (payments table root))
+    pub sum : Says cents (of-header table 7 root) (total table root)
     pub block-counts : All BlockCounts (blocks table root)
 
   -- A message is accepted.

@@ -82,7 +82,7 @@ module _ (table : List Row) where
       given (field-element 8 p) ∷
       given (field-element 9 p) ∷
       given (field-element 10 p) ∷
-      ((amount-of table p ∷ []) ∷ []) ∷
+      ((amount-of table (p .own) ∷ []) ∷ []) ∷
       given (field-element 12 p) ∷
       given (field-element 13 p) ∷
       given (field-element 14 p) ∷

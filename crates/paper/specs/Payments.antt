@@ -71,10 +71,13 @@ module _ (table : List Row) where
   unfoldable pub inherited : List ℕ → Payment → Option Element
   inherited route p = elim (in-payment route p) [ some t ↦ some t | none ↦ in-block route p ]
 
-  -- the instructed amount in cents, and the exact sum of several
-  unfoldable pub amount-of : Payment → ℕ
-  amount-of p = elim (in-payment (41 ∷ 42 ∷ []) p) [ none ↦ 0 | some t ↦ cents (text-of t) ]
+  -- the instructed amount of a payment's element in cents, and the exact sum of several
+  unfoldable pub amount-of : Element → ℕ
+  amount-of t = elim (follow 37 (41 ∷ 42 ∷ []) t) [ none ↦ 0 | some u ↦ cents (text-of u) ]
 
-  unfoldable pub sum-of : List Payment → ℕ
+  unfoldable pub sum-of : List Element → ℕ
   sum-of [] = 0
-  sum-of (p ∷ ps) = amount-of p + sum-of ps
+  sum-of (t ∷ ts) = amount-of t + sum-of ts
+
+  unfoldable pub total : Element → ℕ
+  total root = sum-of (map (λ p. p .own) (payments root))

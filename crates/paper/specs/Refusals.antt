@@ -10,7 +10,7 @@ use Rattle.paper.specs.Form.{Head, Element, Elements, holding-text, hold
 use Rattle.paper.specs.Reading.{Reading, root-is, stops-at, read}
 use Rattle.paper.specs.Rows.{Place, one, opt, plus, either, further, Holds, text, elements, Row, row-of, head-of}
 use Rattle.paper.specs.Values.{lies-from, allowed, number, cents}
-use Rattle.paper.specs.Payments.{Payment, text-of, child, all-of, blocks, of-header, payments, payments-of, in-payment, in-block, sum-of}
+use Rattle.paper.specs.Payments.{Payment, text-of, child, all-of, blocks, of-header, payments, in-payment, in-block, sum-of, total}
 
 -- A refusal's number, element and offset. `none` is no refusal.
 pub record Refusal : Type 0 where
@@ -77,6 +77,13 @@ unfoldable pub missing : List Place → Option ℕ
 missing [] = none
 missing (p ∷ ps) = if required p then some (first-row (rows-at p)) else missing ps
 
+-- the end tag of a group with these places left; text in a group
+unfoldable pub ends : List Place → (close : ℕ) → Option Refusal
+ends places close = elim (missing places) [ some first ↦ refuse 4 first close | none ↦ none ]
+
+unfoldable pub only-white : (row : ℕ) → List Place → Head → List ℕ → Option Refusal
+only-white row places h w = if every white w then ends places (h .close) else refuse 3 row (h .start + first-not white w)
+
 -- where the first of some elements stands
 unfoldable pub first-at : Elements → ℕ → ℕ
 first-at []ᵉ otherwise = otherwise
@@ -111,6 +118,11 @@ unfoldable pub among-texts : List ℕ → List (List ℕ) → Bool
 among-texts w [] = false
 among-texts w (v ∷ vs) = same w v || among-texts w vs
 
+-- where an element stands that must be there
+unfoldable pub at-of : Option Element → ℕ
+at-of none = 0
+at-of (some t) = head-of t .at
+
 -- a refusal at a leaf, where the leaf's text is not as it should be
 unfoldable pub unless : (List ℕ → Bool) → (number row : ℕ) → Option Element → Option Refusal
 unless right number row none = none
@@ -126,12 +138,6 @@ module _ (table : List Row) where
   seek parent (p ∷ ps) name = elim (named-in parent (rows-at p) name) [ some k ↦ found k (left-of p ++ ps) | none ↦ past p (seek parent ps name) ]
 
   module _ (judge : (parent : ℕ) → Row → Head → List ℕ → Option Refusal) where
-    unfoldable pub ends : List Place → (close : ℕ) → Option Refusal
-    ends places close = elim (missing places) [ some first ↦ refuse 4 first close | none ↦ none ]
-
-    unfoldable pub only-white : (row : ℕ) → List Place → Head → List ℕ → Option Refusal
-    only-white row places h w = if every white w then ends places (h .close) else refuse 3 row (h .start + first-not white w)
-
     unfoldable mutual
       pub walk : Element → (parent : ℕ) → Row → Option Refusal
       walk (holding-text h w) parent r =
@@ -206,20 +212,20 @@ module _ (table : List Row) where
 
   -- 21: the total of the amounts above 64 bits.
   unfoldable pub total-refusal : Element → Option Refusal
-  total-refusal root = unless (λ w. ltb (sum-of table (payments table root)) (2 ^ 64)) 21 7 (of-header table 7 root)
+  total-refusal root = if ltb (total table root) (2 ^ 64) then none else refuse 21 7 (at-of (of-header table 7 root))
 
   -- 12 and 13: one walk: header count, header sum, then each block's count and sum. Header numbers cover the whole message.
-  unfoldable pub block-counts : (block-number : ℕ) → List Element → Option Refusal
-  block-counts n [] = none
-  block-counts n (b ∷ bs) =
-      unless (λ w. eqb (number w) (length (payments-of table n b))) 12 14 (child table 10 14 b) or-else
-      unless (λ w. eqb (cents w) (sum-of table (payments-of table n b))) 13 15 (child table 10 15 b) or-else block-counts (suc n) bs
+  unfoldable pub block-counts : List Element → Option Refusal
+  block-counts [] = none
+  block-counts (b ∷ bs) =
+      unless (λ w. eqb (number w) (length (all-of table 10 37 b))) 12 14 (child table 10 14 b) or-else
+      unless (λ w. eqb (cents w) (sum-of table (all-of table 10 37 b))) 13 15 (child table 10 15 b) or-else block-counts bs
 
   unfoldable pub counts-refusal : Element → Option Refusal
   counts-refusal root =
       unless (λ w. eqb (number w) (length (payments table root))) 12 6 (of-header table 6 root) or-else
-      unless (λ w. eqb (cents w) (sum-of table (payments table root))) 13 7 (of-header table 7 root) or-else
-      block-counts 0 (blocks table root)
+      unless (λ w. eqb (cents w) (total table root)) 13 7 (of-header table 7 root) or-else
+      block-counts (blocks table root)
 
   -- the stages over the tree of a message of the form
   unfoldable pub tree-refusal : Element → Option Refusal
@@ -266,7 +272,7 @@ accepted b p c = record { number = 0; element = 0; offset = 0; blocks = b; payme
 
 unfoldable pub answer : List Row → Outcome → Answer
 answer table (refused-as r) = refused r
-answer table (accepted-with root) = accepted (length (blocks table root)) (length (payments table root)) (sum-of table (payments table root))
+answer table (accepted-with root) = accepted (length (blocks table root)) (length (payments table root)) (total table root)
 
 unfoldable pub verdict : List Row → (table-length : ℕ) → List ℕ → Answer
 verdict table n s = answer table (outcome table n s)

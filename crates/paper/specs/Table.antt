@@ -35,7 +35,7 @@ module _ (table : List Row) where
       (two-numbers (part-of (inherited table (34 ∷ 35 ∷ []) p)) ++
       (two-numbers (part-of (inherited table (16 ∷ []) p)) ++
       (two-numbers (part-of (in-block table (26 ∷ 27 ∷ 28 ∷ []) p)) ++
-      (amount-of table p / 100 ∷ amount-of table p % 100 ∷ head-of (p .own) .at ∷ [])))))))
+      (amount-of table (p .own) / 100 ∷ amount-of table (p .own) % 100 ∷ head-of (p .own) .at ∷ [])))))))
 
   unfoldable pub all-numbers : List Payment → List ℕ
   all-numbers [] = []

@@ -1,0 +1,5 @@
+pub mod Arranged
+pub mod Rows
+pub mod Apart
+pub mod Stages
+pub mod Outcome

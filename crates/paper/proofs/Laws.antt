@@ -1,0 +1,78 @@
+-- Laws about the paper's definitions of texts and lists: what a test says, as a statement.
+use Prim.Native.Nat.{ℕ}
+use mathlib.Core.List.{List, [], _∷_, List·Memᴰ, List·Memᴰ·head, List·Memᴰ·tail, List·Memᴰ·cases-cons, List·Memᴰ·not-nil}
+use mathlib.Core.Bool.{Bool, true, false, _&&_}
+use mathlib.Core.Option.{Option, none, some}
+use mathlib.Core.Path.{_≡_, refl, sym, subst}
+use mathlib.Core.Logic.{⊎-elim}
+use native.Mathlib.Omega.{arith}
+use borrow.Author.Tests.{eqb-true, eq-eqb}
+use lib.Dec.{eqb}
+use Rattle.paper.specs.Bytes.{Every, none as every-none, more as every-more, every, same}
+use Rattle.paper.specs.Accepted.{All, all-none, all-more}
+
+-- two values that can't be equal
+pub false-not-true : {A : Type 0} → false ≡ true → A
+false-not-true e = let z : _≡_ {A = ℕ} 0 1 = cc in absurd (omega arith)
+
+pub some-not-none : {A B : Type 0} {a : A} → some a ≡ none → B
+some-not-none e = let z : _≡_ {A = ℕ} 0 1 = cc in absurd (omega arith)
+
+-- both of two tests
+pub both-left : (a b : Bool) → (a && b) ≡ true → a ≡ true
+both-left true b e = refl
+both-left false b e = e
+
+pub both-right : (a b : Bool) → (a && b) ≡ true → b ≡ true
+both-right true b e = e
+both-right false b e = false-not-true e
+
+pub both : {a b : Bool} → a ≡ true → b ≡ true → (a && b) ≡ true
+both p q = rw (p, q)
+
+-- `every` is the test of `Every`
+pub every-says : (p : ℕ → Bool) (w : List ℕ) → every p w ≡ true → Every p w
+unfolding every
+every-says p [] e = every-none
+every-says p (b ∷ w) e = every-more (both-left (p b) _ e) (every-says p w (both-right (p b) _ e))
+
+pub every-tests : {p : ℕ → Bool} {w : List ℕ} → Every p w → every p w ≡ true
+unfolding every
+every-tests every-none = refl
+every-tests (every-more e h) = both e (every-tests h)
+
+-- `same` is the test of equality
+pub same-says : (v w : List ℕ) → same v w ≡ true → v ≡ w
+unfolding same
+same-says [] [] e = refl
+same-says [] (c ∷ w) e = false-not-true e
+same-says (b ∷ v) [] e = false-not-true e
+same-says (b ∷ v) (c ∷ w) e = cons (eqb-true b c (both-left (eqb b c) _ e)) (same-says v w (both-right (eqb b c) _ e))
+  where
+    cons : b ≡ c → v ≡ w → b ∷ v ≡ c ∷ w
+    cons p q = cc
+
+pub same-tests : (w : List ℕ) → same w w ≡ true
+unfolding same
+same-tests [] = refl
+same-tests (b ∷ w) = both (eq-eqb b b refl) (same-tests w)
+
+pub same-differs : (v w : List ℕ) → (v ≡ w → ⊥) → same v w ≡ false
+same-differs v w n = go (same v w) refl
+  where
+    go : (t : Bool) → same v w ≡ t → t ≡ false
+    go true e = absurd (n (same-says v w e))
+    go false e = refl
+
+-- `All` of a list and its members
+pub all-member : {A : Type 0} {P : A → Type 0} {a : A} {l : List A} → All P l → List·Memᴰ a l → P a
+all-member {P = P} (all-more p h) m = ⊎-elim (λ e. subst P (sym e) p) (λ n. all-member h n) (List·Memᴰ·cases-cons m)
+all-member all-none m = absurd (List·Memᴰ·not-nil m)
+
+pub all-map : {A : Type 0} {P Q : A → Type 0} {l : List A} → ((a : A) → P a → Q a) → All P l → All Q l
+all-map f all-none = all-none
+all-map f (all-more p h) = all-more (f _ p) (all-map f h)
+
+pub all-from : {A : Type 0} {P : A → Type 0} {l : List A} → ((a : A) → List·Memᴰ a l → P a) → All P l
+all-from {l = []} f = all-none
+all-from {l = a ∷ l} f = all-more (f a (List·Memᴰ·head refl)) (all-from (λ b m. f b (List·Memᴰ·tail m)))
