@@ -1,0 +1,55 @@
+// The tree of a message of the form, laid out as numbers in a lent buffer, five for each element (specs/Laid.antt).
+ghost use mathlib.Core.Path.{_≡_};
+ghost use Prim.Native.Nat.{ℕ, _+_, _*_, _<_, _≤_};
+ghost use lib.ListN.{length, getD};
+ghost use Rattle.paper.specs.Bytes.{same};
+ghost use Rattle.paper.specs.Form.{Head};
+ghost use Rattle.tree.specs.Laid.{cell-of, between, Entry};
+
+fn wide(x: u16) -> usize
+    ensures { λ r. ⌜ r ≡ x ⌝ }
+{
+    x as usize
+}
+
+// Number k of element i; 0 where the buffer has none.
+pub fn cell(tree: &[u16], i: usize, k: usize) -> usize
+    ensures { λ r. ⌜ (i < 16384 → k < 5 → r ≡ cell-of (now (tree .entry)) i k) ⌝ }
+{
+    if 16384 <= i {
+        return 0;
+    }
+    if 5 <= k {
+        return 0;
+    }
+    let at = i * 5 + k;
+    if tree.len() <= at {
+        return 0;
+    }
+    wide(tree[at])
+}
+
+// The text is what stands in the message from one offset to another.
+pub fn is_text(s: &[u8], from: usize, to: usize, text: &[u8]) -> bool
+    ensures { λ r. ⌜ (from ≤ to → to ≤ length (now (s .entry)) → r ≡ same (between from to (now (s .entry))) (now (text .entry))) ⌝ }
+{
+    if to < from {
+        return false;
+    }
+    if s.len() < to {
+        return false;
+    }
+    texts::same(&s[from..to], text)
+}
+
+// Element i has this name.
+pub fn is_named(s: &[u8], tree: &[u16], i: usize, name: &[u8]) -> bool
+    ensures { λ r. ⌜ ((h : Head) (next : ℕ) → Entry (now (s .entry)) (now (tree .entry)) i h next → r ≡ same (h .name) (now (name .entry))) ⌝ }
+{
+    let at = cell(tree, i, 0);
+    let end = cell(tree, i, 1);
+    if end <= at {
+        return false;
+    }
+    is_text(s, at + 1, end, name)
+}
