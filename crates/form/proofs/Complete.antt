@@ -146,7 +146,7 @@ record Between (o : Open) (at : ℕ) (inner : List ℕ) (ts : Elements) : Type 0
 abbrev Inner : (depth at : ℕ) → List ℕ → Elements → Type 0
 Inner depth at inner ts = (o : Open) → depth ≡ suc (o .depth) → 1 ≤ o .depth → Between o at inner ts
 
-deep-enough : {depth : ℕ} {tag name currency : List ℕ} → IsStartTag depth tag name currency → 1 ≤ depth
+pub deep-enough : {depth : ℕ} {tag name currency : List ℕ} → IsStartTag depth tag name currency → 1 ≤ depth
 deep-enough root = omega arith
 deep-enough (amount d _) = omega arith
 deep-enough (plain d _ _) = omega arith

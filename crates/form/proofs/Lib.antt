@@ -1,2 +1,3 @@
 pub mod Leads
 pub mod Complete
+pub mod Sound
