@@ -86,11 +86,11 @@ not-same s t n = go (same s t) refl
     go true e = absurd (n (same-true s t e))
 
 -- a `>` ends a start tag, unless it is an amount's
-close-name : (depth from : ℕ) (name : List ℕ) (room : ℕ) (k : Element → State) (at : ℕ) → name ≢ bytes "InstdAmt"
+pub close-name : (depth from : ℕ) (name : List ℕ) (room : ℕ) (k : Element → State) (at : ℕ) → same name (bytes "InstdAmt") ≡ false
     → step (naming depth from name room k) at 62 ≡ some (blank (record { name = name; currency = []; at = from; start = suc at; depth = depth }) [] k)
 unfolding step named letter-or-digit letter digit capital from-to is
-close-name depth from name zero k at n = rw (not-same name (bytes "InstdAmt") n)
-close-name depth from name (suc room) k at n = rw (not-same name (bytes "InstdAmt") n)
+close-name depth from name zero k at e = rw e
+close-name depth from name (suc room) k at e = rw e
 
 -- the start tag of an amount, behind its `<I`: up to the currency, the currency, the rest
 amount-name : (depth from : ℕ) (k : Element → State) (at : ℕ)
@@ -122,7 +122,7 @@ tag-leads {depth} (plain _ (letter-and {b} {bs} eb ebs l) n) d e at q k =
     let z : suc (suc (suc at) + length bs) ≡ at + length (60 ∷ b ∷ (bs ++ (62 ∷ []))) = simp length-append (omega arith) in
     let o : Open = opened-by depth at (60 ∷ b ∷ (bs ++ (62 ∷ []))) (b ∷ bs) [] in
     let c : Leads (naming depth at (b ∷ bs) left k) (suc (suc at) + length bs) (62 ∷ []) (blank o [] k) =
-    on (here {q = blank o [] k}) (rw (← z) (close-name depth at (b ∷ bs) left k _ n))
+    on (here {q = blank o [] k}) (rw (← z) (close-name depth at (b ∷ bs) left k _ (not-same _ _ n)))
     in
     (_, refl, on (follow g c) (rw (eb, le-leb depth 12 e)))
 

@@ -64,7 +64,7 @@ Means (after u) at s t = Every white s × (u ≡ t)
 moved : {m n : ℕ} → m ≡ n → (q : State) (s : List ℕ) (t : Element) → Means q m s t → Means q n s t
 moved e q s t h = rw e at h
 
-later : (at n : ℕ) → suc at + n ≡ at + suc n
+pub later : (at n : ℕ) → suc at + n ≡ at + suc n
 later at n = omega arith
 
 -- the same of a step that may not be there
@@ -474,7 +474,7 @@ back (text o w k) = text-back o w k
 back (among o f k) = among-back o f k
 back (after u) = after-back u
 
-stopped : {n : ℕ} {t : Element} → stops-at n ≡ root-is t → ⊥
+pub stopped : {n : ℕ} {t : Element} → stops-at n ≡ root-is t → ⊥
 stopped e = let z : _≡_ {A = ℕ} 0 1 = cc in absurd (omega arith)
 
 -- the end is only where the root has ended
