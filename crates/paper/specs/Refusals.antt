@@ -254,21 +254,10 @@ outcome-alone table s = unless-refused (size-refusal s) (of-reading table (read 
 unfoldable pub outcome : List Row → (table-length : ℕ) → List ℕ → Outcome
 outcome table n s = unless-refused (table-refusal n) (outcome-alone table s)
 
--- The verdict: number, element, offset, blocks, payments, total cents. Refused: the refusal's three numbers and counts of zero.
--- Accepted: the counts, with number, element and offset 0.
-pub record Answer : Type 0 where
-  pub number : ℕ
-  pub element : ℕ
-  pub offset : ℕ
-  pub blocks : ℕ
-  pub payments : ℕ
-  pub cents : ℕ
-
-unfoldable pub refused : Refusal → Answer
-refused r = record { number = r .number; element = r .element; offset = r .offset; blocks = 0; payments = 0; cents = 0 }
-
-unfoldable pub accepted : (blocks payments cents : ℕ) → Answer
-accepted b p c = record { number = 0; element = 0; offset = 0; blocks = b; payments = p; cents = c }
+-- The verdict: accepted, with blocks, payments and total cents; or refused.
+pub data Answer : Type 0 where
+  accepted : (blocks payments cents : ℕ) → Answer
+  refused : Refusal → Answer
 
 unfoldable pub answer : List Row → Outcome → Answer
 answer table (refused-as r) = refused r
@@ -276,3 +265,16 @@ answer table (accepted-with root) = accepted (length (blocks table root)) (lengt
 
 unfoldable pub verdict : List Row → (table-length : ℕ) → List ℕ → Answer
 verdict table n s = answer table (outcome table n s)
+
+-- What is returned. Refused: number, element, offset and counts of zero. Accepted: the counts, with number, element and offset 0.
+pub record Returned : Type 0 where
+  pub number : ℕ
+  pub element : ℕ
+  pub offset : ℕ
+  pub blocks : ℕ
+  pub payments : ℕ
+  pub cents : ℕ
+
+unfoldable pub returned : Answer → Returned
+returned (accepted b p c) = record { number = 0; element = 0; offset = 0; blocks = b; payments = p; cents = c }
+returned (refused r) = record { number = r .number; element = r .element; offset = r .offset; blocks = 0; payments = 0; cents = 0 }
