@@ -15,17 +15,19 @@ use Rattle.acceptance.proofs.Outcome.{accepted-alone, accepted-with-tab
 
 module _ (table : List Row) (apart : (parent k : ℕ) → RowsApart table (row-of table parent k)) where
   accepts : (s : List ℕ) → ((root : Element) × (outcome-alone table s ≡ accepted-with root)) ↔ Accepted table s
-  accepts s =
-      ((λ a.
+  accepts s = (
+    (λ a.
         let h = accepted-alone table apart s (a .0) .0 (a .1) in
         record { size = h .0; root = a .0; form = sound s (a .0) (h .1); tree = h .2 }),
-      (λ a. (a .root, accepted-alone table apart s (a .root) .1 (a .size, complete (a .form), a .tree))))
+    (λ a. (a .root, accepted-alone table apart s (a .root) .1 (a .size, complete (a .form), a .tree))),
+  )
 
 -- for a message alone, and for one with a table that is long enough
 pub accepts-exactly : (s : List ℕ) → ((root : Element) × (outcome-alone rows s ≡ accepted-with root)) ↔ Accepted rows s
 accepts-exactly = accepts rows rows-apart
 
 pub accepts-with-table : (n : ℕ) (s : List ℕ) → least-table ≤ n → ((root : Element) × (outcome rows n s ≡ accepted-with root)) ↔ Accepted rows s
-accepts-with-table n s l =
-    ((λ a. accepts-exactly s .0 (a .0, accepted-with-table rows rows-apart n s (a .0) .0 (a .1) .1)),
-    (λ a. let b = accepts-exactly s .1 a in (b .0, accepted-with-table rows rows-apart n s (b .0) .1 (l, b .1))))
+accepts-with-table n s l = (
+  (λ a. accepts-exactly s .0 (a .0, accepted-with-table rows rows-apart n s (a .0) .0 (a .1) .1)),
+  (λ a. let b = accepts-exactly s .1 a in (b .0, accepted-with-table rows rows-apart n s (b .0) .1 (l, b .1))),
+)
