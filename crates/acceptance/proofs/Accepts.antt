@@ -31,3 +31,16 @@ accepts-with-table n s l = (
   (λ a. accepts-exactly s .0 (a .0, accepted-with-table rows rows-apart n s (a .0) .0 (a .1) .1)),
   (λ a. let b = accepts-exactly s .1 a in (b .0, accepted-with-table rows rows-apart n s (b .0) .1 (l, b .1))),
 )
+
+-- the root of an accepted message is the one that its outcome has
+unfoldable pub accepted-from : (s : List ℕ) (root : Element) → outcome-alone rows s ≡ accepted-with root → Accepted rows s
+accepted-from s root e =
+    record {
+      size = accepted-alone rows rows-apart s root .0 e .0;
+      root = root;
+      form = sound s root (accepted-alone rows rows-apart s root .0 e .1);
+      tree = accepted-alone rows rows-apart s root .0 e .2;
+    }
+
+pub outcome-of : (s : List ℕ) (a : Accepted rows s) → outcome-alone rows s ≡ accepted-with (a .root)
+outcome-of s a = accepted-alone rows rows-apart s (a .root) .1 (a .size, complete (a .form), a .tree)

@@ -1,6 +1,6 @@
 -- The regrouping list, and the answer to a regrouping.
-use Prim.Native.Nat.{ℕ, suc, _+_, _*_, _<_}
-use mathlib.Core.List.{List, [], _∷_, map}
+use Prim.Native.Nat.{ℕ, suc, _+_, _*_, _/_, _%_, _<_}
+use mathlib.Core.List.{List, [], _∷_, _++_, map}
 use mathlib.Core.Option.{Option, none, some}
 use mathlib.Core.Bool.{Bool, true, false, _&&_, not}
 use mathlib.Core.Path.{_≡_}
@@ -14,7 +14,7 @@ use Rattle.paper.specs.Payments.{payments}
 use Rattle.paper.specs.Refusals.{Refusal, Outcome, refused-as, accepted-with, outcome-alone}
 use Rattle.paper.specs.Accepted.{Accepted, All, Distinct}
 use Rattle.paper.specs.Table.{Part, part-of}
-use Rattle.paper.specs.Fields.{Value, values-of, differ-from, field-part}
+use Rattle.paper.specs.Fields.{Value, same-value, values-of, differ-from, field-part}
 
 -- File: `RGL`, 16-bit version 1, 16-bit count, then that many 16-bit ordinals, high byte first; no other byte.
 unfoldable pub add-first : ℕ → Option (List ℕ) → Option (List ℕ)
@@ -34,6 +34,17 @@ counted (version ∷ count ∷ ordinals) = if eqb version 1 && eqb count (length
 unfoldable pub ordinals-of : List ℕ → Option (List ℕ)
 ordinals-of file =
     if same (take 3 file) (bytes "RGL") then elim (numbers-16 (drop 3 file)) [ none ↦ none | some ns ↦ counted ns ] else none
+
+-- the file of some ordinals
+unfoldable pub two-bytes : ℕ → List ℕ
+two-bytes n = n / 256 ∷ n % 256 ∷ []
+
+unfoldable pub all-two-bytes : List ℕ → List ℕ
+all-two-bytes [] = []
+all-two-bytes (n ∷ ns) = two-bytes n ++ all-two-bytes ns
+
+unfoldable pub file-of : (ordinals : List ℕ) → List ℕ
+file-of ordinals = bytes "RGL" ++ all-two-bytes (1 ∷ length ordinals ∷ ordinals)
 
 -- A message's refusal and whose (1 or 2); or number, k and the lowest differing field, all three 0 if accepted.
 pub data Answer : Type 0 where
@@ -57,6 +68,17 @@ of-payments first second file =
       | none ↦ answered 16 0 0
       | some ordinals ↦ if eqb (length ordinals) (length first) then pairing first 0 [] ordinals second else answered 17 0 0
     ]
+
+-- how often a payment, taken as its seventeen fields, stands among payments
+unfoldable pub same-payment : List Value → List Value → Bool
+same-payment [] [] = true
+same-payment [] (w ∷ ws) = false
+same-payment (v ∷ vs) [] = false
+same-payment (v ∷ vs) (w ∷ ws) = same-value v w && same-payment vs ws
+
+unfoldable pub often : List Value → List (List Value) → ℕ
+often p [] = 0
+often p (q ∷ qs) = if same-payment p q then suc (often p qs) else often p qs
 
 module _ (table : List Row) where
   unfoldable pub all-values : Element → List (List Value)
