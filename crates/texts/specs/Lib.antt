@@ -1,0 +1,2 @@
+-- Shapes that the code holds as texts.
+pub mod Shapes

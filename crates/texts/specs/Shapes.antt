@@ -1,0 +1,19 @@
+-- The paper's shapes, with the shape a text of bytes as code holds it.
+use Prim.Native.Nat.{ℕ}
+use mathlib.Core.List.{List, [], _∷_}
+use mathlib.Core.Bool.{Bool, true, false, _&&_}
+use lib.Dec.{eqb}
+use Rattle.paper.specs.Bytes.{if_then_else_, is, capital, digit, capital-or-digit}
+
+unfoldable pub fits-byte : (shape b : ℕ) → Bool
+fits-byte c b =
+    if is "0" c then digit b else
+    if is "A" c then capital b else
+    if is "X" c then capital-or-digit b else eqb b c
+
+-- two texts of one length agree byte for byte, as a test says
+unfoldable pub pairwise : (test : ℕ → ℕ → Bool) (s t : List ℕ) → Bool
+pairwise test [] [] = true
+pairwise test [] (b ∷ t) = false
+pairwise test (a ∷ s) [] = false
+pairwise test (a ∷ s) (b ∷ t) = test a b && pairwise test s t
