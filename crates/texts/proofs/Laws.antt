@@ -6,18 +6,12 @@ use mathlib.Core.Path.{_≡_, refl, ap, _∙_}
 use mathlib.Core.List.{List, [], _∷_}
 use mathlib.Core.Bool.{Bool, true, false, _&&_, _||_}
 use native.Mathlib.Numerals.{add-one}
-<<<<<<< HEAD
-=======
 use native.Mathlib.Omega.{arith}
->>>>>>> 150e0adedf5411882f5c88fe5eefa64b1e6b0d23
 use lib.ListN.{length, getD, drop, drop-of-length-le}
 use native.Mathlib.Nat.{add-zero}
 use lib.Seq.{drop-cons, getD-drop}
 use lib.Dec.{eqb}
-<<<<<<< HEAD
-=======
 use borrow.Author.Tests.{eq-eqb}
->>>>>>> 150e0adedf5411882f5c88fe5eefa64b1e6b0d23
 use Rattle.paper.specs.Bytes.{bytes, is, from-to, one-of, letter, digit, letter-or-digit, capital-or-digit, value-character, every, same}
 use Rattle.paper.specs.Values.{among, fits, shaped, two-slashes}
 use Rattle.paper.specs.Refusals.{first-not}
@@ -29,8 +23,6 @@ drop-at s i h = rw add-one (drop-cons s i 0 h)
 pub drop-end : (s : List ℕ) (i : ℕ) → length s ≤ i → drop i s ≡ []
 drop-end s i h = drop-of-length-le s h
 
-<<<<<<< HEAD
-=======
 -- what a joined test that holds says of its parts
 pub both-left : (a b : Bool) → (a && b) ≡ true → a ≡ true
 both-left true b e = refl
@@ -40,7 +32,6 @@ pub both-right : (a b : Bool) → (a && b) ≡ true → b ≡ true
 both-right true b e = e
 both-right false b e = let z : _≡_ {A = ℕ} 0 1 = cc in absurd (omega arith)
 
->>>>>>> 150e0adedf5411882f5c88fe5eefa64b1e6b0d23
 module _ (p : ℕ → Bool) (s : List ℕ) (i : ℕ) where
   pub every-goes : i < length s → p (getD s i 0) ≡ true → every p (drop i s) ≡ every p (drop (i + 1) s)
   unfolding every
@@ -126,8 +117,6 @@ module _ (f : ℕ → ℕ → Bool) where
     unfolding pairwise
     pairwise-ends h k = rw (drop-end s i h, drop-end t i k)
 
-<<<<<<< HEAD
-=======
   pub pairwise-same-length : (s t : List ℕ) → pairwise f s t ≡ true → length s ≡ length t
   unfolding pairwise
   pairwise-same-length [] [] e = refl
@@ -135,7 +124,6 @@ module _ (f : ℕ → ℕ → Bool) where
   pairwise-same-length (a ∷ s) [] e = let z : _≡_ {A = ℕ} 0 1 = cc in absurd (omega arith)
   pairwise-same-length (a ∷ s) (b ∷ t) e = ap suc (pairwise-same-length s t (both-right (f a b) (pairwise f s t) e))
 
->>>>>>> 150e0adedf5411882f5c88fe5eefa64b1e6b0d23
 -- the paper's own forms
 pub one-of-is : (s : String) (b : ℕ) → one-of s b ≡ among b (bytes s)
 unfolding one-of among bytes is
@@ -172,12 +160,9 @@ every-space w = refl
 pub not-small : (b : ℕ) → from-to "a" "z" b ≡ false → value-character b ≡ (capital-or-digit b || among b (bytes "/-?:().,'+ "))
 unfolding value-character letter-or-digit letter capital-or-digit
 not-small b e = rw (e, one-of-is "/-?:().,'+ " b)
-<<<<<<< HEAD
-=======
 
 -- a text is the same as itself
 pub same-refl : (w : List ℕ) → same w w ≡ true
 unfolding same
 same-refl [] = refl
 same-refl (b ∷ w) = rw (eq-eqb b b refl, same-refl w)
->>>>>>> 150e0adedf5411882f5c88fe5eefa64b1e6b0d23
