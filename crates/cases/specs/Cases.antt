@@ -1,4 +1,4 @@
--- The cases that document 01 marks P, in its order, over the paper's definitions.
+-- The cases that document 01 marks P, in its order, and the verdict on M1 itself, over the paper's definitions.
 use Prim.Native.Nat.{ℕ}
 use Prim.Native.String.{String}
 use mathlib.Core.List.{List, [], _∷_, _++_}

@@ -51,7 +51,7 @@ pub data Answer : Type 0 where
   message-refused : (whose : ℕ) → Refusal → Answer
   answered : (number k field : ℕ) → Answer
 
--- For each k: 18 ordinal too large, 19 named before, 20 fields differ.
+-- For each k: 18 ordinal too large, 19 named before, 20 fields differ. (There are as many ordinals as payments: 15 and 17 came first.)
 unfoldable pub pairing : (first : List (List Value)) (k : ℕ) (named : List ℕ) (ordinals : List ℕ) (second : List (List Value)) → Answer
 pairing first k named [] second = answered 0 0 0
 pairing first k named (o ∷ os) [] = answered 0 0 0
@@ -80,9 +80,9 @@ unfoldable pub often : List Value → List (List Value) → ℕ
 often p [] = 0
 often p (q ∷ qs) = if same-payment p q then suc (often p qs) else often p qs
 
-module _ (table : List Row) where
+module _ (profile : List Row) where
   unfoldable pub all-values : Element → List (List Value)
-  all-values root = map (values-of table) (payments table root)
+  all-values root = map (values-of profile) (payments profile root)
 
   unfoldable pub of-outcomes : (first second : Outcome) (file : List ℕ) → Answer
   of-outcomes (refused-as r) second file = message-refused 1 r
@@ -90,7 +90,7 @@ module _ (table : List Row) where
   of-outcomes (accepted-with t) (accepted-with u) file = of-payments (all-values t) (all-values u) file
 
   unfoldable pub regrouping : (first second file : List ℕ) → Answer
-  regrouping first second file = of-outcomes (outcome-alone table first) (outcome-alone table second) file
+  regrouping first second file = of-outcomes (outcome-alone profile first) (outcome-alone profile second) file
 
   -- For 20 that field's text as the second message has it, otherwise the empty part at 0 of the second.
   unfoldable pub differing-part : (first second file : List ℕ) → Part
@@ -98,19 +98,19 @@ module _ (table : List Row) where
       elim (regrouping first second file) [
         | message-refused whose r ↦ part-of none
         | answered number k field ↦
-            if eqb number 20 then field-part table (outcome-alone table second) k field else part-of none
+            if eqb number 20 then field-part profile (outcome-alone profile second) k field else part-of none
       ]
 
   -- A regrouping is accepted, said plainly (demand 3): both messages are accepted and have equally many payments; the list is well formed and names every
   -- payment of the first message once, in the order of the second; each payment so paired is equal in all seventeen fields.
   pub record Regroups (first second file : List ℕ) : Type 0 where
-    pub first-accepted : Accepted table first
-    pub second-accepted : Accepted table second
+    pub first-accepted : Accepted profile first
+    pub second-accepted : Accepted profile second
     pub ordinals : List ℕ
     pub well-formed : ordinals-of file ≡ some ordinals
-    pub equally-many : length (payments table (first-accepted .root)) ≡ length (payments table (second-accepted .root))
-    pub names-each : length ordinals ≡ length (payments table (first-accepted .root))
-    pub within : All (λ o. o < length (payments table (first-accepted .root))) ordinals
+    pub equally-many : length (payments profile (first-accepted .root)) ≡ length (payments profile (second-accepted .root))
+    pub names-each : length ordinals ≡ length (payments profile (first-accepted .root))
+    pub within : All (λ o. o < length (payments profile (first-accepted .root))) ordinals
     pub once : Distinct ordinals
     pub paired : (k : ℕ) → k < length ordinals
         → getD (all-values (first-accepted .root)) (getD ordinals k 0) [] ≡ getD (all-values (second-accepted .root)) k []

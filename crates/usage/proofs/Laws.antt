@@ -26,13 +26,13 @@ module _ (row : ℕ) {s tree name : List ℕ} (p : Payment) (own-name : name ≡
   not-own l e = sym (rw (own-row rows row name p own-name ∙ found-none l e, in-both))
 
   pub not-block : {f g : Found} {i : ℕ} → Finds s tree (child-named name (p .own)) f → f ≡ At i → Finds s tree (child-named name (p .block)) g → g ≡ Nothing
-    → refusal-found finding.Nothing ≡ in-both rows row p
+      → refusal-found finding.Nothing ≡ in-both rows row p
   unfolding refusal-found in-both
   not-block l e k d =
       sym (rw (own-row rows row name p own-name ∙ found-some l e .is-it, block-row rows row name p block-name ∙ found-none k d, in-both))
 
   pub both : {f g : Found} {i j at : ℕ} → Finds s tree (child-named name (p .own)) f → f ≡ At i → Finds s tree (child-named name (p .block)) g → g ≡ At j
-    → Cell tree i 0 at → refusal-found (finding.Refused (InPaymentAndBlock row at)) ≡ in-both rows row p
+      → Cell tree i 0 at → refusal-found (finding.Refused (InPaymentAndBlock row at)) ≡ in-both rows row p
   unfolding refusal-found refusal-of numbered refuse in-both
   both {at = at} l e k d c =
       let t = found-some l e in
@@ -44,15 +44,15 @@ module _ (row : ℕ) {s tree name : List ℕ} (p : Payment) (own-name : name ≡
   own-there l e = sym (rw (own-row rows row name p own-name ∙ found-some l e .is-it, in-neither))
 
   pub block-there : {f g : Found} {i : ℕ} → Finds s tree (child-named name (p .own)) f → f ≡ Nothing → Finds s tree (child-named name (p .block)) g → g ≡ At i
-    → refusal-found finding.Nothing ≡ in-neither rows row p
+      → refusal-found finding.Nothing ≡ in-neither rows row p
   unfolding refusal-found in-neither
   block-there l e k d =
       sym (rw (own-row rows row name p own-name ∙ found-none l e, block-row rows row name p block-name ∙ found-some k d .is-it, in-neither))
 
 -- 10 is row 16's
 pub neither : {s tree name : List ℕ} (p : Payment) → name ≡ row-of rows 37 16 .name → name ≡ row-of rows 10 16 .name → {f g : Found} {own m at : ℕ}
-  → Finds s tree (child-named name (p .own)) f → f ≡ Nothing → Finds s tree (child-named name (p .block)) g → g ≡ Nothing → Laid s tree (p .own) own m → Cell tree own 0 at
-  → refusal-found (finding.Refused (InNeither at)) ≡ in-neither rows 16 p
+    → Finds s tree (child-named name (p .own)) f → f ≡ Nothing → Finds s tree (child-named name (p .block)) g → g ≡ Nothing → Laid s tree (p .own) own m → Cell tree own 0 at
+    → refusal-found (finding.Refused (InNeither at)) ≡ in-neither rows 16 p
 unfolding refusal-found refusal-of numbered refuse in-neither
 neither {name = name} p own-name block-name l e k d o c =
     sym (rw (own-row rows 16 name p own-name ∙ found-none l e, block-row rows 16 name p block-name ∙ found-none k d, in-neither)
