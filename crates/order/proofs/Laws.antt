@@ -211,3 +211,44 @@ module _ {s tree : List ℕ} where
       let e = entry-of k in
       same-at (d .at-is ∙ sym (e .at-is)) (d .name-end-is ∙ sym (e .name-end-is)) (d .start-is ∙ sym (e .start-is)) (d .close-is ∙ sym (e .close-is))
   found-agree found-nothing found-nothing = same-nothing
+
+-- What is known of the element where one was found, and where nothing was; and of the first of those of a name, where one is left and where none is.
+pub record Located (s tree : List ℕ) (o : Option Element) (i : ℕ) : Type 0 where
+  pub there : Element
+  pub there-is : o ≡ some there
+  pub there-next : ℕ
+  pub there-laid : Laid s tree there i there-next
+
+pub record First (s tree name : List ℕ) (ts : List Element) (i stop : ℕ) : Type 0 where
+  pub one : Element
+  pub one-next : ℕ
+  pub one-laid : Laid s tree one i one-next
+  pub later : Elements
+  pub later-laid : LaidAll s tree later one-next stop
+  pub first-is : ts ≡ one ∷ with-name name (listed later)
+
+module _ {s tree : List ℕ} where
+  pub located : {o : Option Element} {found : Found} {i : ℕ} → Finds s tree o found → found ≡ At i → Located s tree o i
+  located {i = i} (found-at {t} {i = j} {next} l) e =
+      let x : j ≡ i = cc in
+      record { there = t; there-is = refl; there-next = next; there-laid = subst (λ (k : ℕ). Laid s tree t k next) x l }
+  located found-nothing e = at-not-nothing (sym e)
+
+  pub absent : {o : Option Element} {found : Found} → Finds s tree o found → found ≡ Nothing → o ≡ none
+  absent (found-at l) e = at-not-nothing e
+  absent found-nothing e = refl
+
+  pub next-one : {name : List ℕ} {ts : List Element} {i stop : ℕ} → Next s tree name ts i stop → i < stop → First s tree name ts i stop
+  next-one (no-more e) h = absurd (omega arith)
+  next-one (one-more {t} {ts} {next = next} b l all) h =
+      record { one = t; one-next = next; one-laid = l; later = ts; later-laid = all; first-is = refl }
+
+  pub next-none : {name : List ℕ} {ts : List Element} {i stop : ℕ} → Next s tree name ts i stop → stop ≤ i → ts ≡ []
+  next-none (no-more e) h = refl
+  next-none (one-more b l all) h = absurd (omega arith)
+
+-- of what follows an element, the first of a name
+pub next-after : {s tree name : List ℕ} {t : Element} {ts : Elements} {i next stop r after : ℕ} → Laid s tree t i next → LaidAll s tree ts next stop
+    → Cell tree i 4 after → ((us : Elements) → LaidAll s tree us after stop → Next s tree name (with-name name (listed us)) r stop)
+    → Next s tree name (with-name name (listed ts)) r stop
+next-after {s} {tree} {ts = ts} {stop = stop} l all c f = f ts (subst (λ (m : ℕ). LaidAll s tree ts m stop) (sym (ends-at l c)) all)
