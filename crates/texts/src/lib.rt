@@ -157,7 +157,7 @@ pub fn spaces_alone(s: &[u8]) -> bool
 }
 
 // The byte at a place, 0 past the end.
-fn byte_at(s: &[u8], i: usize) -> u8
+pub fn byte_at(s: &[u8], i: usize) -> u8
     ensures { λ r. ⌜ r ≡ getD (now (s .entry)) i 0 ⌝ }
 {
     if i < s.len() {
