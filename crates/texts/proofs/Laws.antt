@@ -12,7 +12,7 @@ use native.Mathlib.Nat.{add-zero}
 use lib.Seq.{drop-cons, getD-drop, take-all}
 use lib.Dec.{eqb}
 use borrow.Author.Tests.{eq-eqb, ne-eqb, eqb-true, eqb-false}
-use Rattle.paper.specs.Bytes.{bytes, is, from-to, one-of, letter, digit, letter-or-digit, capital-or-digit, value-character, every, same}
+use Rattle.paper.specs.Bytes.{if_then_else_, bytes, is, from-to, one-of, letter, digit, letter-or-digit, capital-or-digit, value-character, every, same}
 use Rattle.paper.specs.Values.{among, fits, shaped, two-slashes}
 use Rattle.paper.specs.Refusals.{first-not}
 use Rattle.texts.specs.Shapes.{fits-byte, pairwise}
@@ -184,3 +184,26 @@ same-swap [] [] = refl
 same-swap [] (b ∷ t) = refl
 same-swap (a ∷ s) [] = refl
 same-swap (a ∷ s) (b ∷ t) = rw (eqb-swap a b, same-swap s t)
+
+-- every byte is of a kind exactly where none is the first that is not
+pub none-first : (p : ℕ → Bool) (w : List ℕ) → length w ≤ first-not p w → every p w ≡ true
+unfolding every first-not
+none-first p [] h = refl
+none-first p (b ∷ w) h = by (p b) (none-first p w) h
+  where
+    by :
+        (c : Bool) → (length w ≤ first-not p w → every p w ≡ true) → suc (length w) ≤ (if c then suc (first-not p w) else 0) →
+        (c && every p w) ≡ true
+    by true rest k = rest (omega arith)
+    by false rest k = absurd (omega arith)
+
+pub one-first : (p : ℕ → Bool) (w : List ℕ) → first-not p w < length w → every p w ≡ false
+unfolding every first-not
+one-first p [] h = absurd (omega arith)
+one-first p (b ∷ w) h = by (p b) (one-first p w) h
+  where
+    by :
+        (c : Bool) → (first-not p w < length w → every p w ≡ false) → (if c then suc (first-not p w) else 0) < suc (length w) →
+        (c && every p w) ≡ false
+    by true rest k = rest (omega arith)
+    by false rest k = refl
