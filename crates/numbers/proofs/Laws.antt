@@ -6,7 +6,7 @@ use mathlib.Core.Bool.{Bool, true, false, _&&_}
 use native.Mathlib.Numerals.{add-one}
 use native.Mathlib.Nat.{pow-suc, pow-le-pow-right}
 use native.Mathlib.Omega.{arith}
-use lib.ListN.{length, getD, take, drop, length-take, length-drop}
+use lib.ListN.{length, getD, take, drop, length-take}
 use lib.Seq.{take-suc, take-all}
 use lib.Dec.{eqb, leb}
 use borrow.Author.Tests.{eq-eqb, ne-eqb, leb-true}
@@ -14,7 +14,7 @@ use Rattle.paper.specs.Bytes.{is, digit, every, same, bytes, if_then_else_}
 use Rattle.paper.specs.Values.{number-after, number, lies-from, digits, before-point, behind-point, money, cents, part}
 use Rattle.numbers.specs.Readings.{Spells, in-cents}
 use Rattle.numbers.specs.declared.Reading.the-variants.{Not, Number}
-use Rattle.texts.proofs.Laws.{drop-at, drop-end, both-left, both-right, same-is, same-refl, pairwise-length}
+use Rattle.texts.proofs.Laws.{drop-at, drop-end, rest-is, both-left, both-right, same-is, same-refl, pairwise-length}
 
 -- a digit more at the end
 number-snoc : (k : ℕ) (xs : List ℕ) (b : ℕ) → number-after k (xs ++ b ∷ []) ≡ number-after k xs * 10 + (b - 48)
@@ -30,19 +30,19 @@ pub number-next :
     (s : List ℕ) (n i d : ℕ) → i < length s → n ≡ number (take i s) → d ≡ getD s i 0 - 48 → n * 10 + d ≡ number (take (i + 1) s)
 number-next s n i d h e f = rw (e, f) (sym (number-goes s i h))
 
--- A number of i bytes, each worth less than 208, and of one byte more; of at most fifteen.
+-- A number of i bytes, each worth less than 256, and of one byte more; of at most fifteen.
 pub Small : (n i : ℕ) → Type 0
-Small n i = n + 23 ≤ 23 * 10 ^ i
+Small n i = n + 29 ≤ 29 * 10 ^ i
 
 pub small-zero : Small 0 0
 unfolding Small
 small-zero = omega arith
 
-pub small-goes : (n i d : ℕ) → Small n i → d < 208 → Small (n * 10 + d) (i + 1)
+pub small-goes : (n i d : ℕ) → Small n i → d < 256 → Small (n * 10 + d) (i + 1)
 unfolding Small
 small-goes n i d h k = rw (add-one, pow-suc) (omega arith)
 
-pub small-fits : (n i : ℕ) → Small n i → i ≤ 15 → n < 23000000000000000
+pub small-fits : (n i : ℕ) → Small n i → i ≤ 15 → n < 29000000000000000
 unfolding Small
 small-fits n i h k = let p : 10 ^ i ≤ 10 ^ 15 = pow-le-pow-right (omega arith) k in omega arith
 
@@ -143,7 +143,7 @@ module _ (w : List ℕ) (p : ℕ) (stands : p ≡ length (before-point w)) where
   behind =
       behind-is w ∙
       ap (λ (n : ℕ). drop n w) (ap suc (sym stands) ∙ sym (add-one p)) ∙
-      sym (take-all (length w - (p + 1)) (drop (p + 1) w) (omega (arith, length-drop (p + 1) w)))
+      sym (rest-is w (p + 1))
 
   pub no-money : digits 1 15 (take p w) ≡ false → in-cents w ≡ Not
   unfolding in-cents money

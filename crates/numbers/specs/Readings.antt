@@ -11,7 +11,7 @@ use Rattle.numbers.specs.declared.Reading.the-variants.{Not, Number}
 -- The number that the first fifteen bytes of a text spell, and a bound for whoever computes with it.
 pub record Spells (w : List ℕ) (n : ℕ) : Type 0 where
   pub spells : n ≡ number (take 15 w)
-  pub bounded : n < 23000000000000000
+  pub bounded : n < 29000000000000000
 
 -- A count of at most fifteen digits as a number; any other text is `Not`.
 unfoldable pub counted : List ℕ → Reading

@@ -23,14 +23,14 @@ pub fn lies_from(low: u64, high: u64, n: u64) -> bool
     n <= high
 }
 
-// What a digit adds to a number.
-fn worth(b: u8) -> u64
-    ensures { λ r. ⌜ (r ≡ b - 48) × (r < 208) ⌝ }
+// How far the byte lies above the first of its kind; 0 where it lies below.
+pub fn above(first: u8, b: u8) -> u64
+    ensures { λ r. ⌜ (r ≡ b - first) × (r < 256) ⌝ }
 {
-    if b < b'0' {
+    if b < first {
         return 0;
     }
-    (b - b'0') as u64
+    (b - first) as u64
 }
 
 // The number that the first fifteen bytes spell.
@@ -43,7 +43,7 @@ pub fn number(s: &[u8]) -> u64
         if i == 15 {
             return n;
         }
-        n = n * 10 + worth(s[i]);
+        n = n * 10 + above(b'0', s[i]);
         i += 1;
     }
     n
@@ -98,15 +98,15 @@ fn point(s: &[u8]) -> usize
 
 // The two digits behind the point, zeros where they are not written.
 fn hundredths(s: &[u8]) -> u64
-    ensures { λ r. ⌜ (r ≡ number (take 2 (now (s .entry) ++ bytes "00"))) × (r < 2500) ⌝ }
+    ensures { λ r. ⌜ (r ≡ number (take 2 (now (s .entry) ++ bytes "00"))) × (r < 3000) ⌝ }
 {
     if s.len() == 0 {
         return 0;
     }
     if s.len() == 1 {
-        return worth(s[0]) * 10;
+        return above(b'0', s[0]) * 10;
     }
-    worth(s[0]) * 10 + worth(s[1])
+    above(b'0', s[0]) * 10 + above(b'0', s[1])
 }
 
 // Rows 7, 15, 42: money in cents.

@@ -24,11 +24,11 @@ returns c = spells-full (c .before .before .before .before .args .s .now) (c .be
 mul-n : tie.Need-mul-n Inv-loop μ-loop
 mul-n c = omega (arith, small-fits (c .before .before .loop .n) (c .before .before .loop .i) (c .before .before .loop .inv .3) (c .before .before .loop .inv .1))
 
-shared-slice-read-worth : tie.Need-shared-slice-read-worth Inv-loop μ-loop
-shared-slice-read-worth c = search needs
+shared-slice-read-above : tie.Need-shared-slice-read-above Inv-loop μ-loop
+shared-slice-read-above c = search needs
 
-worth-requires : tie.Need-worth-requires Inv-loop μ-loop
-worth-requires c κs = search needs
+above-requires : tie.Need-above-requires Inv-loop μ-loop
+above-requires c κs = search needs
 
 add-n : tie.Need-add-n Inv-loop μ-loop
 add-n c = omega (arith, small-fits (c .before .before .before .before .loop .n) (c .before .before .before .before .loop .i) (c .before .before .before .before .loop .inv .3) (c .before .before .before .before .loop .inv .1))
@@ -40,7 +40,7 @@ loop-less : tie.Need-loop-less Inv-loop μ-loop
 loop-less c = search needs
 
 loop-again : tie.Need-loop-again Inv-loop μ-loop
-loop-again c = (search needs, omega arith, number-next (c .before .before .before .before .before .before .args .s .now) (c .before .before .before .before .loop .n) (c .before .before .before .before .loop .i) (c .worth .result) (c .before .before .before .loop-test .taken) (c .before .before .before .before .loop .inv .2) (c .worth .ensures .0), small-goes (c .before .before .before .before .loop .n) (c .before .before .before .before .loop .i) (c .worth .result) (c .before .before .before .before .loop .inv .3) (c .worth .ensures .1))
+loop-again c = (search needs, omega arith, number-next (c .before .before .before .before .before .before .args .s .now) (c .before .before .before .before .loop .n) (c .before .before .before .before .loop .i) (c .above .result) (c .before .before .before .loop-test .taken) (c .before .before .before .before .loop .inv .2) (c .above .ensures .0), small-goes (c .before .before .before .before .loop .n) (c .before .before .before .before .loop .i) (c .above .result) (c .before .before .before .before .loop .inv .3) (c .above .ensures .1))
 
 returns-2 : tie.Need-returns-2 Inv-loop μ-loop
 returns-2 c = spells-end (c .before .before .before .args .s .now) (c .before .loop .n) (c .before .loop .i) (c .loop-test .left) (c .before .loop .inv .1) (c .before .loop .inv .2) (c .before .loop .inv .3)
@@ -54,8 +54,8 @@ number-spec =
     loop-holds
     returns
     mul-n
-    shared-slice-read-worth
-    worth-requires
+    shared-slice-read-above
+    above-requires
     add-n
     add-i
     loop-less
