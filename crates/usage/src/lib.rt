@@ -4,11 +4,14 @@ use paper::Fault;
 use paper::Finding;
 ghost use mathlib.Core.Path.{_≡_};
 ghost use Prim.Native.Nat.{ℕ};
+ghost use lib.ListN.{length};
 ghost use Rattle.paper.specs.Rows.{rows, row-of};
-ghost use Rattle.paper.specs.Payments.{Payment};
-ghost use Rattle.paper.specs.Refusals.{in-both, in-neither};
+ghost use Rattle.paper.specs.Form.{Element};
+ghost use Rattle.paper.specs.Payments.{Payment, payments};
+ghost use Rattle.paper.specs.Refusals.{in-both, in-neither, usage-refusal};
 ghost use Rattle.paper.specs.Answers.{refusal-found};
 ghost use Rattle.tree.specs.Laid.{Laid};
+ghost use Rattle.order.specs.Ordered.{Ordered};
 ghost use Rattle.usage.specs.Used.{refusal-in-payment};
 
 // 9: the row of this name stands in the payment `own` and in its block.
@@ -63,4 +66,24 @@ pub fn in_payment(s: &[u8], tree: &[u16], own: usize, block: usize) -> Finding
         return charges;
     };
     in_both(s, tree, own, block, 34, b"UltmtDbtr")
+}
+
+// 9 and 10: one walk over the payments, in their order.
+pub fn usage(s: &[u8], tree: &[u16], order: &[u16], payments: usize) -> Finding
+    ensures { λ r. ⌜ ((root : Element) → Ordered (now (s .entry)) (now (tree .entry)) (now (order .entry)) root → payments ≡ length (payments rows root) → refusal-found r ≡ usage-refusal rows root) ⌝ }
+{
+    let mut k = 0;
+    while k < payments {
+        if 64 <= k {
+            return Finding::Nothing;
+        }
+        let own = tree::number(order, 16 + 3 * k);
+        let block = tree::number(order, 17 + 3 * k);
+        let found = in_payment(s, tree, own, block);
+        let Finding::Nothing = found else {
+            return found;
+        };
+        k += 1;
+    }
+    Finding::Nothing
 }
