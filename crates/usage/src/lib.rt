@@ -3,7 +3,7 @@ use order::Found;
 use paper::Fault;
 use paper::Finding;
 ghost use mathlib.Core.Path.{_≡_};
-ghost use Prim.Native.Nat.{ℕ};
+ghost use Prim.Native.Nat.{ℕ, _≤_};
 ghost use lib.ListN.{length};
 ghost use Rattle.paper.specs.Rows.{rows, row-of};
 ghost use Rattle.paper.specs.Form.{Element};
@@ -69,11 +69,11 @@ pub fn in_payment(s: &[u8], tree: &[u16], own: usize, block: usize) -> Finding
 }
 
 // 9 and 10: one walk over the payments, in their order.
-pub fn usage(s: &[u8], tree: &[u16], order: &[u16], payments: usize) -> Finding
-    ensures { λ r. ⌜ ((root : Element) → Ordered (now (s .entry)) (now (tree .entry)) (now (order .entry)) root → payments ≡ length (payments rows root) → refusal-found r ≡ usage-refusal rows root) ⌝ }
+pub fn usage(s: &[u8], tree: &[u16], order: &[u16], many: usize) -> Finding
+    ensures { λ r. ⌜ ((root : Element) → Ordered (now (s .entry)) (now (tree .entry)) (now (order .entry)) root → many ≡ length (payments rows root) → many ≤ 64 → refusal-found r ≡ usage-refusal rows root) ⌝ }
 {
     let mut k = 0;
-    while k < payments {
+    while k < many {
         if 64 <= k {
             return Finding::Nothing;
         }

@@ -51,5 +51,6 @@ one-judgement parent row longest currency w a b ja jb =
   where
     r : Row
     r = record { row = row; under = 0; name = []; holds = text longest }
+
     h : Head
     h = record { name = []; currency = currency; at = 0; start = 0; close = 0 }
