@@ -4,3 +4,5 @@ pub mod Apart
 pub mod Stages
 pub mod Outcome
 pub mod Accepts
+pub mod Routes
+pub mod RightValues

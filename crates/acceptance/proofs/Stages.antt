@@ -272,6 +272,11 @@ module _ (table : List Row) where
   blocks-of-counts (all-more c h) =
       or-none (unless-number _ _ _ _ _ .1 (c .count)) (or-none (unless-number _ _ _ _ _ .1 (c .sum)) (blocks-of-counts h))
 
+  -- 6 to 8 over the tree
+  pub values-conform : (root : Element) → values-refusal table root ≡ none → Conforms table RightText root 0 (row-of table 0 1)
+  unfolding values-refusal
+  values-conform root e = walk-conforms table leaf-refusal RightText leaf-right root 0 (row-of table 0 1) e
+
   -- all stages over the tree
   module _ (apart : (parent k : ℕ) → RowsApart table (row-of table parent k)) where
     pub no-refusal-accepted : (root : Element) → tree-refusal table root ≡ none → AcceptedTree table root
@@ -290,7 +295,7 @@ module _ (table : List Row) where
           rows = walk-conforms table no-judgement AnyText (λ parent r h w n. record {}) root 0 (row-of table 0 1) (a .0);
           blocks-limit = omega (arith, l .0);
           payments-limit = omega (arith, l .1);
-          values = walk-conforms table leaf-refusal RightText leaf-right root 0 (row-of table 0 1) (c .0);
+          values = values-conform root (c .0);
           usage = usage-used (payments table root) (d .0);
           ids-distinct = ids-new [] (blocks table root) (f .0) .distinct;
           total-fits = below-limit (ltb (total table root) (2 ^ 64)) refl (g .0);
