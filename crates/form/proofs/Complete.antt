@@ -14,7 +14,8 @@ use borrow.Author.Tests.{eq-eqb, ne-eqb, eqb-true, le-leb}
 use Rattle.paper.specs.Bytes.{if_then_else_, bytes, is, from-to, one-of, white, text-byte, capital, digit, letter, letter-or-digit, same, Every, none as all-done, more}
 use Rattle.paper.specs.Form.{Element, Elements, Head, holding-text, holding-elements, []ᵉ, _∷ᵉ_, IsName, letter-and, root-tag, start-tag, amount-tag, end-tag, IsStartTag, root, amount, plain, head, IsElement, of-text, of-elements, AreElements, no-more, one-more, declaration, IsDeclaration, absent, present, IsMessage, message}
 use Rattle.paper.specs.Reading.{Open, closed, State, fixed, opening, opened, before, angle, naming, capitals, blank, text, among, after, want, ending, in-root, in-amount, named, step, ended, run, read, root-is, stops-at}
-use Rattle.form.proofs.Leads.{Leads, here, next, on, at-offset, follow, run-over, want-leads, fixed-leads, Stays, white-leads}
+use Rattle.form.specs.Scans.{Stays}
+use Rattle.form.proofs.Leads.{Leads, here, next, on, at-offset, follow, run-over, want-leads, fixed-leads, white-leads}
 
 -- the open element of a start tag
 abbrev pub opened-by : (depth at : ℕ) (tag name currency : List ℕ) → Open

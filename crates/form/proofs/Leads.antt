@@ -9,6 +9,7 @@ use lib.ListN.{length}
 use borrow.Author.Tests.{eq-eqb}
 use Rattle.paper.specs.Bytes.{if_then_else_, white, Every, none as all-done, more}
 use Rattle.paper.specs.Form.{Element}
+use Rattle.form.specs.Scans.{Stays}
 use Rattle.paper.specs.Reading.{State, fixed, want, step, run, stops-at}
 
 -- from `q` at offset `at` the bytes lead to the last state
@@ -49,10 +50,7 @@ unfolding want
 want-leads [] q at = here
 want-leads (b ∷ bs) q at = fixed-leads b bs q at
 
--- a state that white space leaves as it is
-unfoldable pub Stays : State → Type 0
-Stays q = (at b : ℕ) → white b ≡ true → step q at b ≡ some q
-
+-- white space leads back to a state that it leaves as it is
 pub white-leads : (q : State) → Stays q → {s : List ℕ} (at : ℕ) → Every white s → Leads q at s q
 unfolding Stays
 white-leads q h at all-done = here

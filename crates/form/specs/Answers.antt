@@ -1,0 +1,10 @@
+-- What an answer of `form_of` says of the message, in the words of the grammar alone.
+use Prim.Native.Nat.{ℕ}
+use mathlib.Core.List.{List}
+use Rattle.paper.specs.Form.{OfTheForm as IsOfTheForm, FirstImpossible}
+use Rattle.form.specs.declared.Form.{Form}
+use Rattle.form.specs.declared.Form.the-variants.{OfTheForm, RefusedAt}
+
+unfoldable pub Says : List ℕ → Form → Type 0
+Says s OfTheForm = IsOfTheForm s
+Says s (RefusedAt n) = FirstImpossible s n
