@@ -45,7 +45,7 @@ by-angle : (depth from : ℕ) (q : State) (k : Element → State) → Viable q �
 unfolding step letter capital from-to is
 by-angle depth from q k v = by-byte _ 47 (λ _. q) (λ _. refl) (λ _. v)
 
-open-amount : (depth from : ℕ) (name : List ℕ) (room : ℕ) (k : Element → State) (at : ℕ) → same name (bytes "InstdAmt") ≡ true
+pub open-amount : (depth from : ℕ) (name : List ℕ) (room : ℕ) (k : Element → State) (at : ℕ) → same name (bytes "InstdAmt") ≡ true
     → step (naming depth from name room k) at 32 ≡ some (want (bytes "Ccy=\"") (capitals 2 [] (in-amount depth from k)))
 unfolding step named letter-or-digit letter digit capital from-to is
 open-amount depth from name zero k at e = rw e

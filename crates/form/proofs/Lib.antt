@@ -1,6 +1,9 @@
 -- The written form as theorems: the reading of `paper` decides the grammar, and where it stops is the offset of refusal 2.
 pub mod ByteLaws
 pub mod Laws
+pub mod TagLaws
+pub mod ContentLaws
+pub mod RootLaws
 pub mod Leads
 pub mod Complete
 pub mod Sound

@@ -5,9 +5,9 @@ use mathlib.Core.Option.{some}
 use mathlib.Core.Bool.{Bool, true, false}
 use mathlib.Core.Path.{_≡_}
 use lib.ListN.{length, getD, take, drop}
-use Rattle.paper.specs.Bytes.{white, capital, letter-or-digit}
-use Rattle.paper.specs.Form.{Element}
-use Rattle.paper.specs.Reading.{Open, State, want, blank, naming, step, run, Reading, stops-at}
+use Rattle.paper.specs.Bytes.{bytes, white, text-byte, capital, letter-or-digit}
+use Rattle.paper.specs.Form.{Element, Elements}
+use Rattle.paper.specs.Reading.{Open, State, opening, before, after, angle, among, want, blank, text, naming, capitals, in-amount, step, run, Reading, stops-at}
 use Rattle.form.specs.declared.Scan.{Scan}
 use Rattle.form.specs.declared.Scan.the-variants.{To, StopsAt}
 
@@ -70,3 +70,54 @@ pub record Name (s : List ℕ) (at r : ℕ) : Type 0 where
 pub record CapitalAt (s : List ℕ) (at : ℕ) (r : Bool) : Type 0 where
   pub there : r ≡ true → (at < length s) × (capital (getD s at 0) ≡ true)
   pub not-there : r ≡ false → at < length s → capital (getD s at 0) ≡ false
+
+-- the three letters of a currency
+abbrev pub Capitals : (s : List ℕ) (at : ℕ) → Scan → Type 0
+Capitals s at r = Scanned s at (λ k. capitals 2 [] k) (λ k (letters : List ℕ). k letters) r
+
+-- behind `<InstdAmt ` of an element of a depth, whose `<` stands at an offset
+unfoldable pub opens-currency : (depth lt : ℕ) → (Element → State) → State
+opens-currency depth lt k = want (bytes "Ccy=\"") (capitals 2 [] (in-amount depth lt k))
+
+-- text between two offsets
+pub record Along (s : List ℕ) (at r : ℕ) : Type 0 where
+  pub rises : at ≤ r
+  pub within : r ≤ length s
+  pub texts : (o : Open) (w : List ℕ) → (w′ : List ℕ) × ((k : Element → State) → from s (text o w k) at ≡ from s (text o w′ k) r)
+
+-- text up to the first other byte
+pub record Text (s : List ℕ) (at r : ℕ) : Type 0 where
+  pub along : Along s at r
+  pub other : r < length s → text-byte (getD s r 0) ≡ false
+
+-- whether a `<` at an offset is followed by a byte other than `/`
+pub record Child (s : List ℕ) (at : ℕ) : Type 0 where
+  pub angled : getD s at 0 ≡ 60
+  pub within : at + 1 < length s
+  pub no-slash : getD s (at + 1) 0 ≡ 47 → ⊥
+
+pub record ChildAt (s : List ℕ) (at : ℕ) (r : Bool) : Type 0 where
+  pub there : r ≡ true → Child s at
+  pub not-there : r ≡ false → Child s at → ⊥
+
+-- the text of an element of a name, and its end tag
+abbrev pub TextOf : (s name : List ℕ) (at : ℕ) → Scan → Type 0
+TextOf s name at r = (o : Open) (w : List ℕ) → o .name ≡ name → Read s at (text o w) r
+
+-- Elements whose depth and what is left of it make 12: what one holds, with its end tag; the same behind a first child; and a child, behind its `<`.
+pub record ContentOf (s name : List ℕ) (at left : ℕ) (r : Scan) : Type 0 where
+  pub reads : (o : Open) → o .name ≡ name → o .depth + left ≡ 12 → Read s at (blank o []) r
+
+pub record ChildrenOf (s name : List ℕ) (at left : ℕ) (r : Scan) : Type 0 where
+  pub reads : (o : Open) → o .name ≡ name → o .depth + left ≡ 12 → (f : Elements → Elements) → Read s at (among o f) r
+
+pub record ElementAt (s : List ℕ) (at left : ℕ) (r : Scan) : Type 0 where
+  pub reads : (depth lt : ℕ) → depth + left ≡ 13
+      → Scanned s at (λ (x : State × (Element → State)). angle depth lt (x .0) (x .1)) (λ x (t : Element). x .1 t) r
+
+-- the whole message up to a state in which the root is still to come, and up to behind the root
+abbrev pub Prologue : (s : List ℕ) → Scan → Type 0
+Prologue s r = Scanned {K = Unit {0}} {A = Unit {0}} s 0 (λ _. opening) (λ _ _. before) r
+
+abbrev pub RootAt : (s : List ℕ) (at : ℕ) (q : State) → Scan → Type 0
+RootAt s at q r = Scanned {K = Unit {0}} s at (λ _. q) (λ _ (t : Element). after t) r

@@ -2,16 +2,15 @@
 // One pass over the message, in place. Elements within elements are read by recursion, which the depth bounds; siblings and
 // bytes are read by loops.
 ghost use mathlib.Core.Path.{_≡_};
-ghost use mathlib.Core.Bool.{true, false};
-ghost use mathlib.Core.List.{List, [], _∷_, _++_};
-ghost use Prim.Native.Nat.{ℕ, suc, _+_, _-_, _≤_, _<_};
+ghost use mathlib.Core.Bool.{false};
+ghost use Prim.Native.Nat.{ℕ, _≤_, _<_};
 ghost use lib.ListN.{length, getD};
 ghost use Rattle.paper.specs.Bytes.{bytes, white, text-byte, capital, letter, letter-or-digit, same};
-ghost use Rattle.paper.specs.Form.{Element, Elements};
-ghost use Rattle.paper.specs.Reading.{Open, State, want, angle, naming, capitals, blank, among, opening, before, in-amount};
-ghost use Rattle.paper.specs.Reading.{text as text-state};
+ghost use Rattle.paper.specs.Form.{end-tag};
+ghost use Rattle.paper.specs.Reading.{naming, opening, before};
 ghost use Rattle.form.specs.Answers.{Says};
-ghost use Rattle.form.specs.Scans.{from, Scanned, Word, Read, Opened, White, Name, CapitalAt};
+ghost use Rattle.form.specs.Scans.{Word, Opened, White, Name, Text, CapitalAt, Capitals, opens-currency, TextOf, ChildAt};
+ghost use Rattle.form.specs.Scans.{ContentOf, ChildrenOf, ElementAt, Prologue, RootAt};
 
 pub enum Form {
     OfTheForm,
@@ -156,14 +155,17 @@ fn word(s: &[u8], at: usize, w: &[u8]) -> Scan
     Scan::To(p)
 }
 
-// The end tag behind its `</`.
-fn close(s: &[u8], name: &[u8], at: usize) -> Scan
+// An end tag.
+fn end_tag(s: &[u8], name: &[u8], at: usize) -> Scan
     requires { ⌜ at ≤ length (now s) ⌝ }
-    ensures { λ r. ⌜ Word (now (s .entry)) at (now (name .entry) ++ bytes ">") r ⌝ }
+    ensures { λ r. ⌜ Word (now (s .entry)) at (end-tag (now (name .entry))) r ⌝ }
 {
-    match word(s, at, name) {
+    match word(s, at, b"</") {
         Scan::StopsAt(n) => Scan::StopsAt(n),
-        Scan::To(p) => word(s, p, b">"),
+        Scan::To(p) => match word(s, p, name) {
+            Scan::StopsAt(n) => Scan::StopsAt(n),
+            Scan::To(q) => word(s, q, b">"),
+        },
     }
 }
 
@@ -174,4 +176,211 @@ fn capital_at(s: &[u8], at: usize) -> bool
         return false;
     }
     is_capital(s[at])
+}
+
+fn three_capitals(s: &[u8], at: usize) -> Scan
+    requires { ⌜ at ≤ length (now s) ⌝ }
+    ensures { λ r. ⌜ Capitals (now (s .entry)) at r ⌝ }
+{
+    if !capital_at(s, at) {
+        return Scan::StopsAt(at);
+    }
+    if !capital_at(s, at + 1) {
+        return Scan::StopsAt(at + 1);
+    }
+    if !capital_at(s, at + 2) {
+        return Scan::StopsAt(at + 2);
+    }
+    Scan::To(at + 3)
+}
+
+// The start tag of an amount, behind `<InstdAmt `.
+fn currency(s: &[u8], at: usize) -> Scan
+    requires { ⌜ at ≤ length (now s) ⌝ }
+    ensures { λ r. ⌜ ((depth lt : ℕ) → Opened (now (s .entry)) at (bytes "InstdAmt") depth (opens-currency depth lt) r) ⌝ }
+{
+    match word(s, at, b"Ccy=\"") {
+        Scan::StopsAt(n) => Scan::StopsAt(n),
+        Scan::To(p) => match three_capitals(s, p) {
+            Scan::StopsAt(n) => Scan::StopsAt(n),
+            Scan::To(q) => word(s, q, b"\">"),
+        },
+    }
+}
+
+// A start tag behind its name.
+fn tag_end(s: &[u8], name: &[u8], at: usize) -> Scan
+    requires { ⌜ (at < length (now s)) × (letter-or-digit (getD (now s) at 0) ≡ false) ⌝ }
+    ensures { λ r. ⌜ ((depth lt room : ℕ) → Opened (now (s .entry)) at (now (name .entry)) depth (naming depth lt (now (name .entry)) room) r) ⌝ }
+{
+    let amount = equal(name, b"InstdAmt");
+    if s[at] == b'>' {
+        if amount {
+            return Scan::StopsAt(at);
+        }
+        return Scan::To(at + 1);
+    }
+    if s[at] != b' ' {
+        return Scan::StopsAt(at);
+    }
+    if !amount {
+        return Scan::StopsAt(at);
+    }
+    currency(s, at + 1)
+}
+
+fn text_end(s: &[u8], at: usize) -> usize
+    requires { ⌜ at ≤ length (now s) ⌝ }
+    ensures { λ r. ⌜ Text (now (s .entry)) at r ⌝ }
+{
+    let mut i = at;
+    while i < s.len() {
+        if !is_text(s[i]) {
+            return i;
+        }
+        i += 1;
+    }
+    i
+}
+
+// The text of an element, and its end tag.
+fn text(s: &[u8], name: &[u8], at: usize) -> Scan
+    requires { ⌜ at ≤ length (now s) ⌝ }
+    ensures { λ r. ⌜ TextOf (now (s .entry)) (now (name .entry)) at r ⌝ }
+{
+    end_tag(s, name, text_end(s, at))
+}
+
+// Whether a child's start tag begins here, which is a `<` that no `/` follows.
+fn child_at(s: &[u8], at: usize) -> bool
+    requires { ⌜ at ≤ length (now s) ⌝ }
+    ensures { λ r. ⌜ ChildAt (now (s .entry)) at r ⌝ }
+{
+    if at == s.len() {
+        return false;
+    }
+    if s[at] != b'<' {
+        return false;
+    }
+    if at + 1 == s.len() {
+        return false;
+    }
+    s[at + 1] != b'/'
+}
+
+// What an element holds, and its end tag. `left` is how many depths more there may be.
+fn content(s: &[u8], name: &[u8], at: usize, left: usize) -> Scan
+    requires { ⌜ (at ≤ length (now s)) × (left ≤ 12) ⌝ }
+    ensures { λ r. ⌜ ContentOf (now (s .entry)) (now (name .entry)) at left r ⌝ }
+{
+    let p = white_end(s, at);
+    if !child_at(s, p) {
+        return text(s, name, p);
+    }
+    match element(s, p + 1, left) {
+        Scan::StopsAt(n) => Scan::StopsAt(n),
+        Scan::To(q) => children(s, name, q, left),
+    }
+}
+
+// The other children, and the end tag.
+fn children(s: &[u8], name: &[u8], start: usize, left: usize) -> Scan
+    requires { ⌜ (start ≤ length (now s)) × (left ≤ 12) ⌝ }
+    ensures { λ r. ⌜ ChildrenOf (now (s .entry)) (now (name .entry)) start left r ⌝ }
+{
+    let mut at = start;
+    loop {
+        let p = white_end(s, at);
+        if !child_at(s, p) {
+            return end_tag(s, name, p);
+        }
+        match element(s, p + 1, left) {
+            Scan::StopsAt(n) => {
+                return Scan::StopsAt(n);
+            }
+            Scan::To(q) => {
+                at = q;
+            }
+        }
+    }
+}
+
+// An element behind its `<`.
+fn element(s: &[u8], at: usize, left: usize) -> Scan
+    requires { ⌜ (at < length (now s)) × (left ≤ 12) × (getD (now s) at 0 ≡ 47 → ⊥) ⌝ }
+    ensures { λ r. ⌜ ElementAt (now (s .entry)) at left r ⌝ }
+{
+    if !is_letter(s[at]) {
+        return Scan::StopsAt(at);
+    }
+    if left == 0 {
+        return Scan::StopsAt(at);
+    }
+    let e = name_end(s, at);
+    if e == s.len() {
+        return Scan::StopsAt(e);
+    }
+    if is_letter_or_digit(s[e]) {
+        return Scan::StopsAt(e);
+    }
+    match tag_end(s, &s[at..e], e) {
+        Scan::StopsAt(n) => Scan::StopsAt(n),
+        Scan::To(p) => content(s, &s[at..e], p, left - 1),
+    }
+}
+
+// The declaration, if the message begins with one.
+fn prologue(s: &[u8]) -> Scan
+    ensures { λ r. ⌜ Prologue (now (s .entry)) r ⌝ }
+{
+    if s.len() < 2 {
+        return Scan::To(0);
+    }
+    if s[0] != b'<' {
+        return Scan::To(0);
+    }
+    if s[1] != b'?' {
+        return Scan::To(0);
+    }
+    word(s, 0, b"<?xml version=\"1.0\" encoding=\"UTF-8\"?>")
+}
+
+fn root_at(s: &[u8], at: usize) -> Scan
+    requires { ⌜ (at ≤ length (now s)) × (at < length (now s) → white (getD (now s) at 0) ≡ false) ⌝ }
+    ensures { λ r. ⌜ RootAt (now (s .entry)) at before r ⌝ }
+{
+    match word(
+        s,
+        at,
+        b"<Document xmlns=\"urn:iso:std:iso:20022:tech:xsd:pain.001.001.09\">",
+    ) {
+        Scan::StopsAt(n) => Scan::StopsAt(n),
+        Scan::To(p) => content(s, b"Document", p, 11),
+    }
+}
+
+fn root(s: &[u8]) -> Scan
+    ensures { λ r. ⌜ RootAt (now (s .entry)) 0 opening r ⌝ }
+{
+    match prologue(s) {
+        Scan::StopsAt(n) => Scan::StopsAt(n),
+        Scan::To(p) => root_at(s, white_end(s, p)),
+    }
+}
+
+// Whether the message is of the form, and if not, the offset of refusal 2.
+pub fn form_of(s: &[u8]) -> Form
+    ensures { λ r. ⌜ Says (now (s .entry)) r ⌝ }
+{
+    match root(s) {
+        Scan::StopsAt(n) => Form::RefusedAt(n),
+        Scan::To(p) => {
+            let e = white_end(s, p);
+            if e == s.len() {
+                Form::OfTheForm
+            } else {
+                Form::RefusedAt(e)
+            }
+        }
+    }
 }

@@ -1,0 +1,283 @@
+-- How the machine runs on over what an element holds: text, children, end tags; and over a child.
+use Prim.Native.Nat.{ℕ, zero, suc, _+_, _-_, _≤_, _<_}
+use mathlib.Core.List.{List, [], _∷_, _++_}
+use mathlib.Core.Option.{Option, none, some}
+use mathlib.Core.Bool.{Bool, true, false}
+use mathlib.Core.Path.{_≡_, refl, sym, ap, _∙_}
+use native.Mathlib.Decide.{decLe}
+use native.Mathlib.Omega.{arith}
+use lib.ListN.{length, getD, take, drop}
+use lib.Dec.{eqb, leb}
+use borrow.Author.Tests.{eqb-true, eqb-false, ne-eqb, le-leb, lt-leb}
+use Rattle.paper.specs.Bytes.{if_then_else_, bytes, is, from-to, one-of, white, text-byte, capital, letter, letter-or-digit}
+use Rattle.paper.specs.Form.{Element, Elements, holding-text, holding-elements, []ᵉ, _∷ᵉ_, end-tag}
+use Rattle.paper.specs.Reading.{Open, closed, State, fixed, angle, naming, blank, text, among, want, ending, step, ended, stops-at}
+use Rattle.form.specs.Scans.{from, Scanned, stops, Word, Read, Tag, Opened, Through, White, Spelt, Name, Text, Child, ChildAt, TextOf, ContentOf, ChildrenOf, ElementAt}
+use Rattle.form.specs.declared.Scan.{Scan}
+use Rattle.form.specs.declared.Scan.the-variants.{To, StopsAt}
+use Rattle.form.proofs.Complete.{text-no-angle, among-stays}
+use Rattle.form.proofs.Laws.{from-next, from-stuck, from-short, want-step, want-stuck, want-append, text-step, Reached, reached, halts, first, via, giving, chain}
+
+-- two states from which the machine runs alike
+module _ (s : List ℕ) (q r : State) (p : ℕ) where
+  pub alike-short : length s ≤ p → ended q ≡ none → ended r ≡ none → from s q p ≡ from s r p
+  alike-short l e f = from-short s q p l e ∙ sym (from-short s r p l f)
+
+  pub alike-stuck : p < length s → step q p (getD s p 0) ≡ none → step r p (getD s p 0) ≡ none → from s q p ≡ from s r p
+  alike-stuck l e f = from-stuck s q p l e ∙ sym (from-stuck s r p l f)
+
+  pub alike-next : p < length s → {q₁ r₁ : State} → step q p (getD s p 0) ≡ some q₁ → step r p (getD s p 0) ≡ some r₁
+      → from s q₁ (p + 1) ≡ from s r₁ (p + 1) → from s q p ≡ from s r p
+  alike-next l e f g = from-next s q p l e ∙ (g ∙ sym (from-next s r p l f))
+
+-- behind a `<` that begins no child, an end tag alone goes on
+angle-ends : (s : List ℕ) (depth lt : ℕ) (w : List ℕ) (q : State) (k : Element → State) (p : ℕ) → getD s p 0 ≡ 60 → (Child s p → ⊥)
+    → from s (angle depth lt (want w q) k) (p + 1) ≡ from s (want (47 ∷ w) q) (p + 1)
+unfolding ended want step letter capital from-to is
+angle-ends s depth lt w q k p z n = go (decLe (length s) (p + 1))
+  where
+    slash : p + 1 < length s → (c : Bool) → eqb (getD s (p + 1) 0) 47 ≡ c → getD s (p + 1) 0 ≡ 47
+    slash l true e = eqb-true _ _ e
+    slash l false e = absurd (n (record { angled = z; within = l; no-slash = eqb-false _ _ e }))
+
+    go : Dec (length s ≤ p + 1) → from s (angle depth lt (want w q) k) (p + 1) ≡ from s (want (47 ∷ w) q) (p + 1)
+    go (yes l) = alike-short s _ _ (p + 1) l refl refl
+    go (no l) =
+        let h : p + 1 < length s = omega arith in
+        let e : getD s (p + 1) 0 ≡ 47 = slash h (eqb (getD s (p + 1) 0) 47) refl in
+        alike-next s _ _ (p + 1) h (rw e) (want-step 47 w q (p + 1) (getD s (p + 1) 0) e) refl
+
+-- a `<` in an element, and text behind white space
+module _ (o : Open) (k : Element → State) (at b : ℕ) where
+  blank-angle : (w : List ℕ) → b ≡ 60
+      → step (blank o w k) at b ≡ some (angle (suc (o .depth)) at (ending o (holding-text (closed o at) w) k) (λ t. among o (λ ts. t ∷ᵉ ts) k))
+  unfolding step white one-of is
+  blank-angle w e = rw e
+
+  text-angle : (w : List ℕ) → b ≡ 60 → step (text o w k) at b ≡ some (want (47 ∷ []) (ending o (holding-text (closed o at) w) k))
+  unfolding step text-byte one-of is want
+  text-angle w e = rw e
+
+  among-angle : (f : Elements → Elements) → b ≡ 60
+      → step (among o f k) at b
+      ≡ some (angle (suc (o .depth)) at (ending o (holding-elements (closed o at) (f []ᵉ)) k) (λ t. among o (λ ts. f (t ∷ᵉ ts)) k))
+  unfolding step white one-of is
+  among-angle f e = rw e
+
+  blank-text : (w : List ℕ) → white b ≡ false → is "<" b ≡ false → text-byte b ≡ true → step (blank o w k) at b ≡ some (text o (w ++ (b ∷ [])) k)
+  unfolding step
+  blank-text w e f g = rw (e, f, g)
+
+module _ (s : List ℕ) (o : Open) (k : Element → State) (p : ℕ) where
+  -- text up to a byte that is none ends there
+  pub text-ends : (w : List ℕ) → (p < length s → text-byte (getD s p 0) ≡ false)
+      → from s (text o w k) p ≡ from s (want (end-tag (o .name)) (k (holding-text (closed o p) w))) p
+  unfolding ended want step end-tag bytes is ending
+  text-ends w t = go (decLe (length s) p)
+    where
+      at-byte : (h : p < length s) → (c : Bool) → is "<" (getD s p 0) ≡ c
+          → from s (text o w k) p ≡ from s (want (end-tag (o .name)) (k (holding-text (closed o p) w))) p
+      at-byte h true e =
+          alike-next s _ _ p h (text-angle o k p (getD s p 0) w (eqb-true _ _ e))
+          (want-step 60 (47 ∷ (o .name ++ bytes ">")) _ p (getD s p 0) (eqb-true _ _ e))
+          (sym (want-append s (47 ∷ []) (o .name ++ bytes ">") (p + 1) _))
+      at-byte h false e = alike-stuck s _ _ p h (rw (t h, e)) (want-stuck 60 (47 ∷ (o .name ++ bytes ">")) _ p (getD s p 0) (eqb-false _ _ e))
+
+      go : Dec (length s ≤ p) → from s (text o w k) p ≡ from s (want (end-tag (o .name)) (k (holding-text (closed o p) w))) p
+      go (yes l) = alike-short s _ _ p l refl refl
+      go (no l) = let h : p < length s = omega arith in at-byte h (is "<" (getD s p 0)) refl
+
+  -- white space that no child follows is text
+  pub blank-is-text : (w : List ℕ) → (p < length s → white (getD s p 0) ≡ false) → (Child s p → ⊥) → from s (blank o w k) p ≡ from s (text o w k) p
+  unfolding ended step is ending want
+  blank-is-text w t n = go (decLe (length s) p)
+    where
+      other : (h : p < length s) → (c : Bool) → text-byte (getD s p 0) ≡ c → is "<" (getD s p 0) ≡ false → from s (blank o w k) p ≡ from s (text o w k) p
+      other h true e f = alike-next s _ _ p h (blank-text o k p (getD s p 0) w (t h) f e) (text-step o w k p (getD s p 0) e) refl
+      other h false e f = alike-stuck s _ _ p h (rw (t h, f, e)) (rw (e, f))
+
+      at-byte : (h : p < length s) → (c : Bool) → is "<" (getD s p 0) ≡ c → from s (blank o w k) p ≡ from s (text o w k) p
+      at-byte h true e =
+          alike-next s _ _ p h (blank-angle o k p (getD s p 0) w (eqb-true _ _ e)) (text-angle o k p (getD s p 0) w (eqb-true _ _ e))
+          (angle-ends s (suc (o .depth)) p (o .name ++ bytes ">") _ _ p (eqb-true _ _ e) n
+          ∙ want-append s (47 ∷ []) (o .name ++ bytes ">") (p + 1) _)
+      at-byte h false e = other h (text-byte (getD s p 0)) refl e
+
+      go : Dec (length s ≤ p) → from s (blank o w k) p ≡ from s (text o w k) p
+      go (yes l) = alike-short s _ _ p l refl refl
+      go (no l) = let h : p < length s = omega arith in at-byte h (is "<" (getD s p 0)) refl
+
+  -- behind children, white space that no child follows comes before the end tag
+  pub among-ends : (f : Elements → Elements) → (p < length s → white (getD s p 0) ≡ false) → (Child s p → ⊥)
+      → from s (among o f k) p ≡ from s (want (end-tag (o .name)) (k (holding-elements (closed o p) (f []ᵉ)))) p
+  unfolding ended want step end-tag bytes is ending
+  among-ends f t n = go (decLe (length s) p)
+    where
+      at-byte : (h : p < length s) → (c : Bool) → is "<" (getD s p 0) ≡ c
+          → from s (among o f k) p ≡ from s (want (end-tag (o .name)) (k (holding-elements (closed o p) (f []ᵉ)))) p
+      at-byte h true e =
+          alike-next s _ _ p h (among-angle o k p (getD s p 0) f (eqb-true _ _ e))
+          (want-step 60 (47 ∷ (o .name ++ bytes ">")) _ p (getD s p 0) (eqb-true _ _ e))
+          (angle-ends s (suc (o .depth)) p (o .name ++ bytes ">") _ _ p (eqb-true _ _ e) n)
+      at-byte h false e = alike-stuck s _ _ p h (rw (t h, e)) (want-stuck 60 (47 ∷ (o .name ++ bytes ">")) _ p (getD s p 0) (eqb-false _ _ e))
+
+      go : Dec (length s ≤ p) → from s (among o f k) p ≡ from s (want (end-tag (o .name)) (k (holding-elements (closed o p) (f []ᵉ)))) p
+      go (yes l) = alike-short s _ _ p l refl refl
+      go (no l) = let h : p < length s = omega arith in at-byte h (is "<" (getD s p 0)) refl
+
+  -- a child begins
+  pub blank-child : (w : List ℕ) → Child s p
+      → from s (blank o w k) p
+      ≡ from s (angle (suc (o .depth)) p (ending o (holding-text (closed o p) w) k) (λ t. among o (λ ts. t ∷ᵉ ts) k)) (p + 1)
+  blank-child w c = from-next s _ p (omega (arith, c .within)) (blank-angle o k p (getD s p 0) w (c .angled))
+
+  pub among-child : (f : Elements → Elements) → Child s p
+      → from s (among o f k) p
+      ≡ from s (angle (suc (o .depth)) p (ending o (holding-elements (closed o p) (f []ᵉ)) k) (λ t. among o (λ ts. f (t ∷ᵉ ts)) k)) (p + 1)
+  among-child f c = from-next s _ p (omega (arith, c .within)) (among-angle o k p (getD s p 0) f (c .angled))
+
+-- A whole text of an element; then what an element holds, by what stands first in it.
+pub text-read : {s name : List ℕ} {at p : ℕ} {r : Scan} → Text s at p → Word s p (end-tag name) r → TextOf s name at r
+text-read {s} {name} {at} {p} t h o w e =
+    let (w′, f) = t .along .texts o w in
+    first (t .along .rises) (λ k. f k ∙ text-ends s o k p w′ (t .other) ∙ ap (λ n. from s (want (end-tag n) (k (holding-text (closed o p) w′))) p) e)
+    (giving (λ _. holding-text (closed o p) w′) (λ k _. refl) (via (λ k. k (holding-text (closed o p) w′)) h))
+
+pub content-text : {s name : List ℕ} {at p left : ℕ} {c : Bool} {r : Scan} → White s at p → ChildAt s p c → c ≡ false → TextOf s name p r
+    → ContentOf s name at left r
+content-text {s} {p} w c n h = record {
+  reads = λ o e d.
+      let (w′, f) = w .through .blanks o [] in
+      first (w .through .rises) (λ k. f k ∙ blank-is-text s o k p w′ (w .other) (c .not-there n)) (h o w′ e);
+}
+
+-- a first child
+module _ {s : List ℕ} {at p left : ℕ} {c : Bool} {r : Scan} (w : White s at p) (h : ChildAt s p c) (e : c ≡ true) (x : ElementAt s (p + 1) left r) where
+  first-child : (o : Open) → o .depth + left ≡ 12 → Scanned s at (blank o []) (λ k (t : Element). among o (λ ts. t ∷ᵉ ts) k) r
+  first-child o d =
+      let (w′, f) = w .through .blanks o [] in
+      let l = w .through .rises in
+      first (omega arith) (λ k. f k ∙ blank-child s o k p w′ (h .there e))
+      (via (λ k. (ending o (holding-text (closed o p) w′) k, λ t. among o (λ ts. t ∷ᵉ ts) k)) (x .reads (suc (o .depth)) p (omega arith)))
+
+  pub content-stops : {name : List ℕ} {n : ℕ} → r ≡ StopsAt n → ContentOf s name at left (StopsAt n)
+  content-stops z = record { reads = λ o _ d. halts (first-child o d) z }
+
+  pub content-children : {name : List ℕ} {q : ℕ} {y : Scan} → r ≡ To q → ChildrenOf s name q left y → ContentOf s name at left y
+  content-children z g = record { reads = λ o i d. chain (first-child o d) z (λ t. g .reads o i d (λ ts. t ∷ᵉ ts)) }
+
+pub element-bounds : {s : List ℕ} {at left q : ℕ} {r : Scan} → left ≤ 12 → ElementAt s at left r → r ≡ To q → (at ≤ q) × (q ≤ length s)
+element-bounds {left} l x z = let g = reached (x .reads (13 - left) 0 (omega arith)) z in (g .rises, g .within)
+
+-- Children that have been passed, from an offset to an offset.
+pub record Passed (s : List ℕ) (left at r : ℕ) : Type 0 where
+  pub rises : at ≤ r
+  pub within : r ≤ length s
+  pub passes : (o : Open) → o .depth + left ≡ 12 → (f : Elements → Elements)
+      → (f′ : Elements → Elements) × ((k : Element → State) → from s (among o f k) at ≡ from s (among o f′ k) r)
+
+pub none-passed : (s : List ℕ) (left at : ℕ) → at ≤ length s → Passed s left at at
+none-passed s left at h = record { rises = omega arith; within = h; passes = λ o _ f. (f, λ k. refl) }
+
+module _ {s : List ℕ} {left at m p : ℕ} {c : Bool} (b : Passed s left at m) (w : White s m p) (h : ChildAt s p c) where
+  pub children-end : c ≡ false → {name : List ℕ} {r : Scan} → Word s p (end-tag name) r → ChildrenOf s name at left r
+  children-end n g = record {
+    reads = λ o e d f.
+        let (f′, i) = b .passes o d f in
+        let l = b .rises in
+        let l′ = w .through .rises in
+        first (omega arith)
+        (λ k. i k ∙ (w .through .stays (among o f′ k) (among-stays o f′ k)
+        ∙ (among-ends s o k p f′ (w .other) (h .not-there n) ∙ ap (λ n. from s (want (end-tag n) (k (holding-elements (closed o p) (f′ []ᵉ)))) p) e)))
+        (giving (λ _. holding-elements (closed o p) (f′ []ᵉ)) (λ k _. refl) (via (λ k. k (holding-elements (closed o p) (f′ []ᵉ))) g));
+  }
+
+  module _ (e : c ≡ true) {r : Scan} (x : ElementAt s (p + 1) left r) where
+    next-child : (o : Open) → o .depth + left ≡ 12 → (f : Elements → Elements)
+        → (f′ : Elements → Elements) × Scanned s at (among o f) (λ k (t : Element). among o (λ ts. f′ (t ∷ᵉ ts)) k) r
+    next-child o d f =
+        let (f′, i) = b .passes o d f in
+        let l = b .rises in
+        let l′ = w .through .rises in (
+          f′,
+          first (omega arith) (λ k. i k ∙ (w .through .stays (among o f′ k) (among-stays o f′ k) ∙ among-child s o k p f′ (h .there e)))
+              (via (λ k. (ending o (holding-elements (closed o p) (f′ []ᵉ)) k, λ t. among o (λ ts. f′ (t ∷ᵉ ts)) k)) (x .reads (suc (o .depth)) p (omega arith))),
+        )
+
+    pub children-stop : {name : List ℕ} {n : ℕ} → r ≡ StopsAt n → ChildrenOf s name at left (StopsAt n)
+    children-stop z = record { reads = λ o _ d f. halts (next-child o d f .1) z }
+
+    pub one-passed : left ≤ 12 → {q : ℕ} → r ≡ To q → Passed s left at q
+    one-passed l {q} z =
+        let (l₁, l₂) = element-bounds l x z in
+        let l₃ = b .rises in
+        let l₄ = w .through .rises in
+        record {
+          rises = omega arith;
+          within = l₂;
+          passes = λ o d f.
+              let (f′, g) = next-child o d f in
+              let j = reached g z in
+              ((λ ts. f′ (j .got ∷ᵉ ts)), j .runs);
+        }
+
+-- a child: no letter, too deep, and its name
+module _ (s : List ℕ) (depth lt : ℕ) (q : State) (k : Element → State) (at : ℕ) (h : at < length s) where
+  angle-stuck : letter (getD s at 0) ≡ false → (getD s at 0 ≡ 47 → ⊥) → from s (angle depth lt q k) at ≡ stops-at at
+  unfolding step is
+  angle-stuck e n = from-stuck s _ at h (rw (e, ne-eqb _ 47 n))
+
+  angle-deep : letter (getD s at 0) ≡ true → 12 < depth → from s (angle depth lt q k) at ≡ stops-at at
+  unfolding step
+  angle-deep e l = from-stuck s _ at h (rw (e, lt-leb depth 12 l))
+
+  angle-names : letter (getD s at 0) ≡ true → depth ≤ 12
+      → from s (angle depth lt q k) at ≡ from s (naming depth lt (getD s at 0 ∷ []) 31 k) (at + 1)
+  angle-names e l = from-next s _ at h (name-begins e l)
+    where
+      name-begins : letter (getD s at 0) ≡ true → depth ≤ 12 → step (angle depth lt q k) at (getD s at 0) ≡ some (naming depth lt (getD s at 0 ∷ []) 31 k)
+      name-begins e l = unfold step in rw (e, le-leb depth 12 l)
+
+pub no-letter : {s : List ℕ} {at left : ℕ} → at < length s → letter (getD s at 0) ≡ false → (getD s at 0 ≡ 47 → ⊥) → ElementAt s at left (StopsAt at)
+no-letter {s} {at} h e n = record { reads = λ depth lt _. stops (λ x. angle-stuck s depth lt (x .0) (x .1) at h e n) }
+
+pub too-deep : {s : List ℕ} {at left : ℕ} → at < length s → letter (getD s at 0) ≡ true → left ≡ 0 → ElementAt s at left (StopsAt at)
+too-deep {s} {at} h e z = record { reads = λ depth lt d. stops (λ x. angle-deep s depth lt (x .0) (x .1) at h e (omega arith)) }
+
+name-full : (depth lt : ℕ) (name : List ℕ) (k : Element → State) (at b : ℕ) → letter-or-digit b ≡ true → step (naming depth lt name 0 k) at b ≡ none
+unfolding step
+name-full depth lt name k at b e = rw e
+
+module _ {s : List ℕ} {at left e : ℕ} (h : at < length s) (l : letter (getD s at 0) ≡ true) (n : Name s at e) (m : (left ≡ 0 → ⊥)) where
+  named : (depth lt : ℕ) → depth + left ≡ 13 → (x : State × (Element → State))
+      → from s (angle depth lt (x .0) (x .1)) at ≡ from s (naming depth lt (take (e - at) (drop at s)) (at + 32 - e) (x .1)) e
+  named depth lt d x = angle-names s depth lt (x .0) (x .1) at h l (omega arith) ∙ n .spelt .names depth lt (x .1)
+
+  pub name-short : e ≡ length s → ElementAt s at left (StopsAt e)
+  unfolding ended
+  name-short z = record { reads = λ depth lt d. stops (λ x. named depth lt d x ∙ from-short s _ e (omega arith) refl) }
+
+  pub name-long : e < length s → letter-or-digit (getD s e 0) ≡ true → ElementAt s at left (StopsAt e)
+  name-long i f =
+      let full : at + 32 - e ≡ 0 = omega (arith, n .other i f) in
+      record { reads = λ depth lt d. stops (λ x. named depth lt d x ∙ stuck depth lt (x .1) full) }
+    where
+      stuck : (depth lt : ℕ) (k : Element → State) → at + 32 - e ≡ 0
+          → from s (naming depth lt (take (e - at) (drop at s)) (at + 32 - e) k) e ≡ stops-at e
+      stuck depth lt k z = rw z (from-stuck s _ e i (name-full depth lt _ k e (getD s e 0) f))
+
+  module _ {r : Scan} (t : (depth lt room : ℕ) → Opened s e (take (e - at) (drop at s)) depth (naming depth lt (take (e - at) (drop at s)) room) r) where
+    tagged : (depth lt : ℕ) → depth + left ≡ 13
+        → Scanned s at (λ (x : State × (Element → State)). angle depth lt (x .0) (x .1))
+        (λ x (o : Tag (take (e - at) (drop at s)) depth). blank (o .tag) [] (x .1)) r
+    tagged depth lt d = let i = n .spelt .rises in first (omega arith) (named depth lt d) (via (λ x. x .1) (t depth lt (at + 32 - e)))
+
+    pub tag-stops : {z : ℕ} → r ≡ StopsAt z → ElementAt s at left (StopsAt z)
+    tag-stops f = record { reads = λ depth lt d. halts (tagged depth lt d) f }
+
+    pub element-read : {p left′ : ℕ} {y : Scan} → r ≡ To p → left ≡ suc left′ → ContentOf s (take (e - at) (drop at s)) p left′ y → ElementAt s at left y
+    element-read f z c = record {
+      reads = λ depth lt d.
+          chain (tagged depth lt d) f
+          (λ o. let o-depth = o .its-depth in via (λ x. x .1) (c .reads (o .tag) (o .its-name) (omega arith)));
+    }
