@@ -58,675 +58,159 @@ element-at t = and 1 element-kinds.ps (is 1 element-kinds.ps μ-element t) eleme
 abbrev element-below : ℕ → In 1 element-kinds.ps
 element-below t = and 1 element-kinds.ps (falls 1 element-kinds.ps _<_ μ-element t) element.Pre
 
+abbrev children-claims : ℕ → children-lts.Claims
+children-claims t = (white-end-reads.Asked, white-end-reads.Learnt, child-at-reads.Asked, child-at-reads.Learnt, end-tag-reads.Asked, end-tag-reads.Learnt, element-below t, element.Post)
+
+abbrev content-claims : ℕ → content-lts.Claims
+content-claims t = (white-end-reads.Asked, white-end-reads.Learnt, child-at-reads.Asked, child-at-reads.Learnt, text-reads.Asked, text-reads.Learnt, element-below t, element.Post, children-below t, children.Post)
+
+abbrev element-claims : ℕ → element-lts.Claims
+element-claims t = (is-letter-reads.Asked, is-letter-reads.Learnt, name-end-reads.Asked, name-end-reads.Learnt, is-letter-or-digit-reads.Asked, is-letter-or-digit-reads.Learnt, tag-end-reads.Asked, tag-end-reads.Learnt, content-below t, content.Post)
+
 abbrev children-Inv-loop : children-lts.InvT-loop
 children-Inv-loop s name start left at₀ at = Passed s left start at
 
 abbrev children-μ-loop : children-lts.MeasureT-loop
 children-μ-loop s name start left at₀ at = length s - at
 
--- src/lib.rt:292:5
-children-loop-holds : (t : ℕ) → children-lts.Need-loop-holds (
-  white-end-reads.Asked,
-  white-end-reads.Learnt,
-  child-at-reads.Asked,
-  child-at-reads.Learnt,
-  end-tag-reads.Asked,
-  end-tag-reads.Learnt,
-  element-below t,
-  element.Post,
-) (children-at t) children.Post children-Inv-loop children-μ-loop
+children-loop-holds : (t : ℕ) → children-lts.Need-loop-holds (children-claims t) (children-at t) children.Post children-Inv-loop children-μ-loop
 children-loop-holds t c = none-passed _ _ _ (search needs)
 
--- src/lib.rt:293:13
-children-white-end-requires : (t : ℕ) → children-lts.Need-white-end-requires (
-  white-end-reads.Asked,
-  white-end-reads.Learnt,
-  child-at-reads.Asked,
-  child-at-reads.Learnt,
-  end-tag-reads.Asked,
-  end-tag-reads.Learnt,
-  element-below t,
-  element.Post,
-) (children-at t) children.Post children-Inv-loop children-μ-loop
+children-white-end-requires : (t : ℕ) → children-lts.Need-white-end-requires (children-claims t) (children-at t) children.Post children-Inv-loop children-μ-loop
 children-white-end-requires t c κs = search needs
 
--- src/lib.rt:294:13
-children-child-at-requires : (t : ℕ) → children-lts.Need-child-at-requires (
-  white-end-reads.Asked,
-  white-end-reads.Learnt,
-  child-at-reads.Asked,
-  child-at-reads.Learnt,
-  end-tag-reads.Asked,
-  end-tag-reads.Learnt,
-  element-below t,
-  element.Post,
-) (children-at t) children.Post children-Inv-loop children-μ-loop
+children-child-at-requires : (t : ℕ) → children-lts.Need-child-at-requires (children-claims t) (children-at t) children.Post children-Inv-loop children-μ-loop
 children-child-at-requires t c κs = search needs
 
--- src/lib.rt:295:13
-children-end-tag-requires : (t : ℕ) → children-lts.Need-end-tag-requires (
-  white-end-reads.Asked,
-  white-end-reads.Learnt,
-  child-at-reads.Asked,
-  child-at-reads.Learnt,
-  end-tag-reads.Asked,
-  end-tag-reads.Learnt,
-  element-below t,
-  element.Post,
-) (children-at t) children.Post children-Inv-loop children-μ-loop
+children-end-tag-requires : (t : ℕ) → children-lts.Need-end-tag-requires (children-claims t) (children-at t) children.Post children-Inv-loop children-μ-loop
 children-end-tag-requires t c κs = search needs
 
--- src/lib.rt:295:13
-children-returns : (t : ℕ) → children-lts.Need-returns (
-  white-end-reads.Asked,
-  white-end-reads.Learnt,
-  child-at-reads.Asked,
-  child-at-reads.Learnt,
-  end-tag-reads.Asked,
-  end-tag-reads.Learnt,
-  element-below t,
-  element.Post,
-) (children-at t) children.Post children-Inv-loop children-μ-loop
+children-returns : (t : ℕ) → children-lts.Need-returns (children-claims t) (children-at t) children.Post children-Inv-loop children-μ-loop
 children-returns t c = children-end (c .before .before .before .before .loop .inv) (c .before .before .before .white-end .ensures) (c .before .before .child-at .ensures) (not-true _ (c .before .if1 .taken)) (c .end-tag .ensures)
 
--- src/lib.rt:297:26
-children-add-element : (t : ℕ) → children-lts.Need-add-element (
-  white-end-reads.Asked,
-  white-end-reads.Learnt,
-  child-at-reads.Asked,
-  child-at-reads.Learnt,
-  end-tag-reads.Asked,
-  end-tag-reads.Learnt,
-  element-below t,
-  element.Post,
-) (children-at t) children.Post children-Inv-loop children-μ-loop
+children-add-element : (t : ℕ) → children-lts.Need-add-element (children-claims t) (children-at t) children.Post children-Inv-loop children-μ-loop
 children-add-element t c = omega (arith, c .before .child-at .ensures .there (not-false _ (c .if1 .left)))
 
--- src/lib.rt:297:15
-children-element-requires : (t : ℕ) → children-lts.Need-element-requires (
-  white-end-reads.Asked,
-  white-end-reads.Learnt,
-  child-at-reads.Asked,
-  child-at-reads.Learnt,
-  end-tag-reads.Asked,
-  end-tag-reads.Learnt,
-  element-below t,
-  element.Post,
-) (children-at t) children.Post children-Inv-loop children-μ-loop
+children-element-requires : (t : ℕ) → children-lts.Need-element-requires (children-claims t) (children-at t) children.Post children-Inv-loop children-μ-loop
 children-element-requires t c κs = let k = c .before .child-at .ensures .there (not-false _ (c .if1 .left)) in (search needs, (search needs, search needs, k .no-slash))
 
--- src/lib.rt:298:27
-children-enum-known-n : (t : ℕ) → children-lts.Need-enum-known-n (
-  white-end-reads.Asked,
-  white-end-reads.Learnt,
-  child-at-reads.Asked,
-  child-at-reads.Learnt,
-  end-tag-reads.Asked,
-  end-tag-reads.Learnt,
-  element-below t,
-  element.Post,
-) (children-at t) children.Post children-Inv-loop children-μ-loop
+children-enum-known-n : (t : ℕ) → children-lts.Need-enum-known-n (children-claims t) (children-at t) children.Post children-Inv-loop children-μ-loop
 children-enum-known-n t c = search needs
 
--- src/lib.rt:299:17
-children-returns-2 : (t : ℕ) → children-lts.Need-returns-2 (
-  white-end-reads.Asked,
-  white-end-reads.Learnt,
-  child-at-reads.Asked,
-  child-at-reads.Learnt,
-  end-tag-reads.Asked,
-  end-tag-reads.Learnt,
-  element-below t,
-  element.Post,
-) (children-at t) children.Post children-Inv-loop children-μ-loop
+children-returns-2 : (t : ℕ) → children-lts.Need-returns-2 (children-claims t) (children-at t) children.Post children-Inv-loop children-μ-loop
 children-returns-2 t c = children-stop (c .before .before .before .before .before .before .before .loop .inv) (c .before .before .before .before .before .before .white-end .ensures) (c .before .before .before .before .before .child-at .ensures) (not-false _ (c .before .before .before .before .if1 .left)) (c .before .before .before .element .ensures) (c .before .n .given .1)
 
--- src/lib.rt:301:22
-children-enum-known-q : (t : ℕ) → children-lts.Need-enum-known-q (
-  white-end-reads.Asked,
-  white-end-reads.Learnt,
-  child-at-reads.Asked,
-  child-at-reads.Learnt,
-  end-tag-reads.Asked,
-  end-tag-reads.Learnt,
-  element-below t,
-  element.Post,
-) (children-at t) children.Post children-Inv-loop children-μ-loop
+children-enum-known-q : (t : ℕ) → children-lts.Need-enum-known-q (children-claims t) (children-at t) children.Post children-Inv-loop children-μ-loop
 children-enum-known-q t c = search needs
 
--- src/lib.rt:292:5
-children-loop-less : (t : ℕ) → children-lts.Need-loop-less (
-  white-end-reads.Asked,
-  white-end-reads.Learnt,
-  child-at-reads.Asked,
-  child-at-reads.Learnt,
-  end-tag-reads.Asked,
-  end-tag-reads.Learnt,
-  element-below t,
-  element.Post,
-) (children-at t) children.Post children-Inv-loop children-μ-loop
+children-loop-less : (t : ℕ) → children-lts.Need-loop-less (children-claims t) (children-at t) children.Post children-Inv-loop children-μ-loop
 children-loop-less t c = omega (arith, element-bounds (c .before .before .before .before .before .before .before .before .before .before .pre .1 .1) (c .before .before .before .element .ensures) (c .before .q .given .1), c .before .before .before .before .before .before .white-end .ensures .through)
 
--- src/lib.rt:292:5
-children-loop-again : (t : ℕ) → children-lts.Need-loop-again (
-  white-end-reads.Asked,
-  white-end-reads.Learnt,
-  child-at-reads.Asked,
-  child-at-reads.Learnt,
-  end-tag-reads.Asked,
-  end-tag-reads.Learnt,
-  element-below t,
-  element.Post,
-) (children-at t) children.Post children-Inv-loop children-μ-loop
+children-loop-again : (t : ℕ) → children-lts.Need-loop-again (children-claims t) (children-at t) children.Post children-Inv-loop children-μ-loop
 children-loop-again t c = one-passed (c .before .before .before .before .before .before .before .loop .inv) (c .before .before .before .before .before .before .white-end .ensures) (c .before .before .before .before .before .child-at .ensures) (not-false _ (c .before .before .before .before .if1 .left)) (c .before .before .before .element .ensures) (c .before .before .before .before .before .before .before .before .before .before .pre .1 .1) (c .before .q .given .1)
 
--- src/lib.rt:276:9
-content-white-end-requires : (t : ℕ) → content-lts.Need-white-end-requires (
-  white-end-reads.Asked,
-  white-end-reads.Learnt,
-  child-at-reads.Asked,
-  child-at-reads.Learnt,
-  text-reads.Asked,
-  text-reads.Learnt,
-  element-below t,
-  element.Post,
-  children-below t,
-  children.Post,
-) (content-at t) content.Post
+content-white-end-requires : (t : ℕ) → content-lts.Need-white-end-requires (content-claims t) (content-at t) content.Post
 content-white-end-requires t c κs = search needs
 
--- src/lib.rt:277:9
-content-child-at-requires : (t : ℕ) → content-lts.Need-child-at-requires (
-  white-end-reads.Asked,
-  white-end-reads.Learnt,
-  child-at-reads.Asked,
-  child-at-reads.Learnt,
-  text-reads.Asked,
-  text-reads.Learnt,
-  element-below t,
-  element.Post,
-  children-below t,
-  children.Post,
-) (content-at t) content.Post
+content-child-at-requires : (t : ℕ) → content-lts.Need-child-at-requires (content-claims t) (content-at t) content.Post
 content-child-at-requires t c κs = search needs
 
--- src/lib.rt:278:9
-content-text-requires : (t : ℕ) → content-lts.Need-text-requires (
-  white-end-reads.Asked,
-  white-end-reads.Learnt,
-  child-at-reads.Asked,
-  child-at-reads.Learnt,
-  text-reads.Asked,
-  text-reads.Learnt,
-  element-below t,
-  element.Post,
-  children-below t,
-  children.Post,
-) (content-at t) content.Post
+content-text-requires : (t : ℕ) → content-lts.Need-text-requires (content-claims t) (content-at t) content.Post
 content-text-requires t c κs = search needs
 
--- src/lib.rt:278:9
-content-returns : (t : ℕ) → content-lts.Need-returns (
-  white-end-reads.Asked,
-  white-end-reads.Learnt,
-  child-at-reads.Asked,
-  child-at-reads.Learnt,
-  text-reads.Asked,
-  text-reads.Learnt,
-  element-below t,
-  element.Post,
-  children-below t,
-  children.Post,
-) (content-at t) content.Post
+content-returns : (t : ℕ) → content-lts.Need-returns (content-claims t) (content-at t) content.Post
 content-returns t c = content-text (c .before .before .before .white-end .ensures) (c .before .before .child-at .ensures) (not-true _ (c .before .if1 .taken)) (c .text .ensures)
 
--- src/lib.rt:280:22
-content-add-element : (t : ℕ) → content-lts.Need-add-element (
-  white-end-reads.Asked,
-  white-end-reads.Learnt,
-  child-at-reads.Asked,
-  child-at-reads.Learnt,
-  text-reads.Asked,
-  text-reads.Learnt,
-  element-below t,
-  element.Post,
-  children-below t,
-  children.Post,
-) (content-at t) content.Post
+content-add-element : (t : ℕ) → content-lts.Need-add-element (content-claims t) (content-at t) content.Post
 content-add-element t c = omega (arith, c .before .child-at .ensures .there (not-false _ (c .if1 .left)))
 
--- src/lib.rt:280:11
-content-element-requires : (t : ℕ) → content-lts.Need-element-requires (
-  white-end-reads.Asked,
-  white-end-reads.Learnt,
-  child-at-reads.Asked,
-  child-at-reads.Learnt,
-  text-reads.Asked,
-  text-reads.Learnt,
-  element-below t,
-  element.Post,
-  children-below t,
-  children.Post,
-) (content-at t) content.Post
+content-element-requires : (t : ℕ) → content-lts.Need-element-requires (content-claims t) (content-at t) content.Post
 content-element-requires t c κs = let k = c .before .child-at .ensures .there (not-false _ (c .if1 .left)) in (search needs, (search needs, search needs, k .no-slash))
 
--- src/lib.rt:281:23
-content-enum-known-n : (t : ℕ) → content-lts.Need-enum-known-n (
-  white-end-reads.Asked,
-  white-end-reads.Learnt,
-  child-at-reads.Asked,
-  child-at-reads.Learnt,
-  text-reads.Asked,
-  text-reads.Learnt,
-  element-below t,
-  element.Post,
-  children-below t,
-  children.Post,
-) (content-at t) content.Post
+content-enum-known-n : (t : ℕ) → content-lts.Need-enum-known-n (content-claims t) (content-at t) content.Post
 content-enum-known-n t c = search needs
 
--- src/lib.rt:282:18
-content-enum-known-q : (t : ℕ) → content-lts.Need-enum-known-q (
-  white-end-reads.Asked,
-  white-end-reads.Learnt,
-  child-at-reads.Asked,
-  child-at-reads.Learnt,
-  text-reads.Asked,
-  text-reads.Learnt,
-  element-below t,
-  element.Post,
-  children-below t,
-  children.Post,
-) (content-at t) content.Post
+content-enum-known-q : (t : ℕ) → content-lts.Need-enum-known-q (content-claims t) (content-at t) content.Post
 content-enum-known-q t c = search needs
 
--- src/lib.rt:282:24
-content-children-requires : (t : ℕ) → content-lts.Need-children-requires (
-  white-end-reads.Asked,
-  white-end-reads.Learnt,
-  child-at-reads.Asked,
-  child-at-reads.Learnt,
-  text-reads.Asked,
-  text-reads.Learnt,
-  element-below t,
-  element.Post,
-  children-below t,
-  children.Post,
-) (content-at t) content.Post
+content-children-requires : (t : ℕ) → content-lts.Need-children-requires (content-claims t) (content-at t) content.Post
 content-children-requires t c κs = (search needs, (element-bounds (c .before .before .before .before .before .before .before .before .before .pre .1 .1) (c .before .before .before .element .ensures) (c .before .q .given .1) .1, search needs))
 
--- src/lib.rt:272:1
-content-returns-2 : (t : ℕ) → content-lts.Need-returns-2 (
-  white-end-reads.Asked,
-  white-end-reads.Learnt,
-  child-at-reads.Asked,
-  child-at-reads.Learnt,
-  text-reads.Asked,
-  text-reads.Learnt,
-  element-below t,
-  element.Post,
-  children-below t,
-  children.Post,
-) (content-at t) content.Post
+content-returns-2 : (t : ℕ) → content-lts.Need-returns-2 (content-claims t) (content-at t) content.Post
 content-returns-2 t c = content-stops (c .before .before .before .before .before .before .white-end .ensures) (c .before .before .before .before .before .child-at .ensures) (not-false _ (c .before .before .before .before .if1 .left)) (c .before .before .before .element .ensures) (c .before .n .given .1)
 
--- src/lib.rt:272:1
-content-returns-3 : (t : ℕ) → content-lts.Need-returns-3 (
-  white-end-reads.Asked,
-  white-end-reads.Learnt,
-  child-at-reads.Asked,
-  child-at-reads.Learnt,
-  text-reads.Asked,
-  text-reads.Learnt,
-  element-below t,
-  element.Post,
-  children-below t,
-  children.Post,
-) (content-at t) content.Post
+content-returns-3 : (t : ℕ) → content-lts.Need-returns-3 (content-claims t) (content-at t) content.Post
 content-returns-3 t c = content-children (c .before .before .before .before .before .before .before .white-end .ensures) (c .before .before .before .before .before .before .child-at .ensures) (not-false _ (c .before .before .before .before .before .if1 .left)) (c .before .before .before .before .element .ensures) (c .before .before .q .given .1) (c .children .ensures)
 
--- src/lib.rt:313:19
-element-shared-slice-read-is-letter : (t : ℕ) → element-lts.Need-shared-slice-read-is-letter (
-  is-letter-reads.Asked,
-  is-letter-reads.Learnt,
-  name-end-reads.Asked,
-  name-end-reads.Learnt,
-  is-letter-or-digit-reads.Asked,
-  is-letter-or-digit-reads.Learnt,
-  tag-end-reads.Asked,
-  tag-end-reads.Learnt,
-  content-below t,
-  content.Post,
-) (element-at t) element.Post
+element-shared-slice-read-is-letter : (t : ℕ) → element-lts.Need-shared-slice-read-is-letter (element-claims t) (element-at t) element.Post
 element-shared-slice-read-is-letter t c = search needs
 
--- src/lib.rt:313:9
-element-is-letter-requires : (t : ℕ) → element-lts.Need-is-letter-requires (
-  is-letter-reads.Asked,
-  is-letter-reads.Learnt,
-  name-end-reads.Asked,
-  name-end-reads.Learnt,
-  is-letter-or-digit-reads.Asked,
-  is-letter-or-digit-reads.Learnt,
-  tag-end-reads.Asked,
-  tag-end-reads.Learnt,
-  content-below t,
-  content.Post,
-) (element-at t) element.Post
+element-is-letter-requires : (t : ℕ) → element-lts.Need-is-letter-requires (element-claims t) (element-at t) element.Post
 element-is-letter-requires t c κs = search needs
 
--- src/lib.rt:314:9
-element-returns : (t : ℕ) → element-lts.Need-returns (
-  is-letter-reads.Asked,
-  is-letter-reads.Learnt,
-  name-end-reads.Asked,
-  name-end-reads.Learnt,
-  is-letter-or-digit-reads.Asked,
-  is-letter-or-digit-reads.Learnt,
-  tag-end-reads.Asked,
-  tag-end-reads.Learnt,
-  content-below t,
-  content.Post,
-) (element-at t) element.Post
+element-returns : (t : ℕ) → element-lts.Need-returns (element-claims t) (element-at t) element.Post
 element-returns t c = no-letter (c .before .before .before .before .pre .1 .0) (sym (c .before .is-letter .ensures) ∙ not-true _ (c .if1 .taken)) (c .before .before .before .before .pre .1 .2)
 
--- src/lib.rt:317:9
-element-returns-2 : (t : ℕ) → element-lts.Need-returns-2 (
-  is-letter-reads.Asked,
-  is-letter-reads.Learnt,
-  name-end-reads.Asked,
-  name-end-reads.Learnt,
-  is-letter-or-digit-reads.Asked,
-  is-letter-or-digit-reads.Learnt,
-  tag-end-reads.Asked,
-  tag-end-reads.Learnt,
-  content-below t,
-  content.Post,
-) (element-at t) element.Post
+element-returns-2 : (t : ℕ) → element-lts.Need-returns-2 (element-claims t) (element-at t) element.Post
 element-returns-2 t c = too-deep (c .before .before .before .before .before .pre .1 .0) (sym (c .before .before .is-letter .ensures) ∙ not-false _ (c .before .if1 .left)) (c .if2 .taken)
 
--- src/lib.rt:319:9
-element-name-end-requires : (t : ℕ) → element-lts.Need-name-end-requires (
-  is-letter-reads.Asked,
-  is-letter-reads.Learnt,
-  name-end-reads.Asked,
-  name-end-reads.Learnt,
-  is-letter-or-digit-reads.Asked,
-  is-letter-or-digit-reads.Learnt,
-  tag-end-reads.Asked,
-  tag-end-reads.Learnt,
-  content-below t,
-  content.Post,
-) (element-at t) element.Post
+element-name-end-requires : (t : ℕ) → element-lts.Need-name-end-requires (element-claims t) (element-at t) element.Post
 element-name-end-requires t c κs = search needs
 
--- src/lib.rt:321:9
-element-returns-3 : (t : ℕ) → element-lts.Need-returns-3 (
-  is-letter-reads.Asked,
-  is-letter-reads.Learnt,
-  name-end-reads.Asked,
-  name-end-reads.Learnt,
-  is-letter-or-digit-reads.Asked,
-  is-letter-or-digit-reads.Learnt,
-  tag-end-reads.Asked,
-  tag-end-reads.Learnt,
-  content-below t,
-  content.Post,
-) (element-at t) element.Post
+element-returns-3 : (t : ℕ) → element-lts.Need-returns-3 (element-claims t) (element-at t) element.Post
 element-returns-3 t c = name-short (c .before .before .before .before .before .before .before .pre .1 .0) (sym (c .before .before .before .before .is-letter .ensures) ∙ not-false _ (c .before .before .before .if1 .left)) (c .before .name-end .ensures) (c .before .before .if2 .left) (c .if3 .taken)
 
--- src/lib.rt:323:27
 element-shared-slice-read-is-letter-or-digit :
-    (t : ℕ) → element-lts.Need-shared-slice-read-is-letter-or-digit (
-      is-letter-reads.Asked,
-      is-letter-reads.Learnt,
-      name-end-reads.Asked,
-      name-end-reads.Learnt,
-      is-letter-or-digit-reads.Asked,
-      is-letter-or-digit-reads.Learnt,
-      tag-end-reads.Asked,
-      tag-end-reads.Learnt,
-      content-below t,
-      content.Post,
-    ) (element-at t) element.Post
+    (t : ℕ) → element-lts.Need-shared-slice-read-is-letter-or-digit (element-claims t) (element-at t) element.Post
 element-shared-slice-read-is-letter-or-digit t c = search needs
 
--- src/lib.rt:323:8
-element-is-letter-or-digit-requires : (t : ℕ) → element-lts.Need-is-letter-or-digit-requires (
-  is-letter-reads.Asked,
-  is-letter-reads.Learnt,
-  name-end-reads.Asked,
-  name-end-reads.Learnt,
-  is-letter-or-digit-reads.Asked,
-  is-letter-or-digit-reads.Learnt,
-  tag-end-reads.Asked,
-  tag-end-reads.Learnt,
-  content-below t,
-  content.Post,
-) (element-at t) element.Post
+element-is-letter-or-digit-requires : (t : ℕ) → element-lts.Need-is-letter-or-digit-requires (element-claims t) (element-at t) element.Post
 element-is-letter-or-digit-requires t c κs = search needs
 
--- src/lib.rt:324:9
-element-returns-4 : (t : ℕ) → element-lts.Need-returns-4 (
-  is-letter-reads.Asked,
-  is-letter-reads.Learnt,
-  name-end-reads.Asked,
-  name-end-reads.Learnt,
-  is-letter-or-digit-reads.Asked,
-  is-letter-or-digit-reads.Learnt,
-  tag-end-reads.Asked,
-  tag-end-reads.Learnt,
-  content-below t,
-  content.Post,
-) (element-at t) element.Post
+element-returns-4 : (t : ℕ) → element-lts.Need-returns-4 (element-claims t) (element-at t) element.Post
 element-returns-4 t c = name-long (c .before .before .before .before .before .before .before .before .before .before .pre .1 .0) (sym (c .before .before .before .before .before .before .before .is-letter .ensures) ∙ not-false _ (c .before .before .before .before .before .before .if1 .left)) (c .before .before .before .before .name-end .ensures) (c .before .before .before .before .before .if2 .left) (search needs) (sym (c .before .is-letter-or-digit .ensures) ∙ c .if4 .taken)
 
--- src/lib.rt:326:22
-element-sub-tag-end : (t : ℕ) → element-lts.Need-sub-tag-end (
-  is-letter-reads.Asked,
-  is-letter-reads.Learnt,
-  name-end-reads.Asked,
-  name-end-reads.Learnt,
-  is-letter-or-digit-reads.Asked,
-  is-letter-or-digit-reads.Learnt,
-  tag-end-reads.Asked,
-  tag-end-reads.Learnt,
-  content-below t,
-  content.Post,
-) (element-at t) element.Post
+element-sub-tag-end : (t : ℕ) → element-lts.Need-sub-tag-end (element-claims t) (element-at t) element.Post
 element-sub-tag-end t c = search needs
 
--- src/lib.rt:326:22
-element-part-tag-end-start : (t : ℕ) → element-lts.Need-part-tag-end-start (
-  is-letter-reads.Asked,
-  is-letter-reads.Learnt,
-  name-end-reads.Asked,
-  name-end-reads.Learnt,
-  is-letter-or-digit-reads.Asked,
-  is-letter-or-digit-reads.Learnt,
-  tag-end-reads.Asked,
-  tag-end-reads.Learnt,
-  content-below t,
-  content.Post,
-) (element-at t) element.Post
+element-part-tag-end-start : (t : ℕ) → element-lts.Need-part-tag-end-start (element-claims t) (element-at t) element.Post
 element-part-tag-end-start t c = search needs
 
--- src/lib.rt:326:22
-element-part-tag-end-end : (t : ℕ) → element-lts.Need-part-tag-end-end (
-  is-letter-reads.Asked,
-  is-letter-reads.Learnt,
-  name-end-reads.Asked,
-  name-end-reads.Learnt,
-  is-letter-or-digit-reads.Asked,
-  is-letter-or-digit-reads.Learnt,
-  tag-end-reads.Asked,
-  tag-end-reads.Learnt,
-  content-below t,
-  content.Post,
-) (element-at t) element.Post
+element-part-tag-end-end : (t : ℕ) → element-lts.Need-part-tag-end-end (element-claims t) (element-at t) element.Post
 element-part-tag-end-end t c = search needs
 
--- src/lib.rt:326:11
-element-tag-end-requires : (t : ℕ) → element-lts.Need-tag-end-requires (
-  is-letter-reads.Asked,
-  is-letter-reads.Learnt,
-  name-end-reads.Asked,
-  name-end-reads.Learnt,
-  is-letter-or-digit-reads.Asked,
-  is-letter-or-digit-reads.Learnt,
-  tag-end-reads.Asked,
-  tag-end-reads.Learnt,
-  content-below t,
-  content.Post,
-) (element-at t) element.Post
+element-tag-end-requires : (t : ℕ) → element-lts.Need-tag-end-requires (element-claims t) (element-at t) element.Post
 element-tag-end-requires t c κs = (search needs, sym (c .before .before .is-letter-or-digit .ensures) ∙ c .before .if4 .left)
 
--- src/lib.rt:327:23
-element-enum-known-n : (t : ℕ) → element-lts.Need-enum-known-n (
-  is-letter-reads.Asked,
-  is-letter-reads.Learnt,
-  name-end-reads.Asked,
-  name-end-reads.Learnt,
-  is-letter-or-digit-reads.Asked,
-  is-letter-or-digit-reads.Learnt,
-  tag-end-reads.Asked,
-  tag-end-reads.Learnt,
-  content-below t,
-  content.Post,
-) (element-at t) element.Post
+element-enum-known-n : (t : ℕ) → element-lts.Need-enum-known-n (element-claims t) (element-at t) element.Post
 element-enum-known-n t c = search needs
 
--- src/lib.rt:328:18
-element-enum-known-p : (t : ℕ) → element-lts.Need-enum-known-p (
-  is-letter-reads.Asked,
-  is-letter-reads.Learnt,
-  name-end-reads.Asked,
-  name-end-reads.Learnt,
-  is-letter-or-digit-reads.Asked,
-  is-letter-or-digit-reads.Learnt,
-  tag-end-reads.Asked,
-  tag-end-reads.Learnt,
-  content-below t,
-  content.Post,
-) (element-at t) element.Post
+element-enum-known-p : (t : ℕ) → element-lts.Need-enum-known-p (element-claims t) (element-at t) element.Post
 element-enum-known-p t c = search needs
 
--- src/lib.rt:328:35
-element-sub-content : (t : ℕ) → element-lts.Need-sub-content (
-  is-letter-reads.Asked,
-  is-letter-reads.Learnt,
-  name-end-reads.Asked,
-  name-end-reads.Learnt,
-  is-letter-or-digit-reads.Asked,
-  is-letter-or-digit-reads.Learnt,
-  tag-end-reads.Asked,
-  tag-end-reads.Learnt,
-  content-below t,
-  content.Post,
-) (element-at t) element.Post
+element-sub-content : (t : ℕ) → element-lts.Need-sub-content (element-claims t) (element-at t) element.Post
 element-sub-content t c = search needs
 
--- src/lib.rt:328:35
-element-part-content-start : (t : ℕ) → element-lts.Need-part-content-start (
-  is-letter-reads.Asked,
-  is-letter-reads.Learnt,
-  name-end-reads.Asked,
-  name-end-reads.Learnt,
-  is-letter-or-digit-reads.Asked,
-  is-letter-or-digit-reads.Learnt,
-  tag-end-reads.Asked,
-  tag-end-reads.Learnt,
-  content-below t,
-  content.Post,
-) (element-at t) element.Post
+element-part-content-start : (t : ℕ) → element-lts.Need-part-content-start (element-claims t) (element-at t) element.Post
 element-part-content-start t c = search needs
 
--- src/lib.rt:328:35
-element-part-content-end : (t : ℕ) → element-lts.Need-part-content-end (
-  is-letter-reads.Asked,
-  is-letter-reads.Learnt,
-  name-end-reads.Asked,
-  name-end-reads.Learnt,
-  is-letter-or-digit-reads.Asked,
-  is-letter-or-digit-reads.Learnt,
-  tag-end-reads.Asked,
-  tag-end-reads.Learnt,
-  content-below t,
-  content.Post,
-) (element-at t) element.Post
+element-part-content-end : (t : ℕ) → element-lts.Need-part-content-end (element-claims t) (element-at t) element.Post
 element-part-content-end t c = search needs
 
--- src/lib.rt:328:49
-element-sub-content-2 : (t : ℕ) → element-lts.Need-sub-content-2 (
-  is-letter-reads.Asked,
-  is-letter-reads.Learnt,
-  name-end-reads.Asked,
-  name-end-reads.Learnt,
-  is-letter-or-digit-reads.Asked,
-  is-letter-or-digit-reads.Learnt,
-  tag-end-reads.Asked,
-  tag-end-reads.Learnt,
-  content-below t,
-  content.Post,
-) (element-at t) element.Post
+element-sub-content-2 : (t : ℕ) → element-lts.Need-sub-content-2 (element-claims t) (element-at t) element.Post
 element-sub-content-2 t c = search needs
 
--- src/lib.rt:328:24
-element-content-requires : (t : ℕ) → element-lts.Need-content-requires (
-  is-letter-reads.Asked,
-  is-letter-reads.Learnt,
-  name-end-reads.Asked,
-  name-end-reads.Learnt,
-  is-letter-or-digit-reads.Asked,
-  is-letter-or-digit-reads.Learnt,
-  tag-end-reads.Asked,
-  tag-end-reads.Learnt,
-  content-below t,
-  content.Post,
-) (element-at t) element.Post
+element-content-requires : (t : ℕ) → element-lts.Need-content-requires (element-claims t) (element-at t) element.Post
 element-content-requires t c κs = (search needs, (reached (c .before .before .before .before .tag-end .ensures 0 0 0) (c .before .before .p .given .1) .within, search needs))
 
--- src/lib.rt:309:1
-element-returns-5 : (t : ℕ) → element-lts.Need-returns-5 (
-  is-letter-reads.Asked,
-  is-letter-reads.Learnt,
-  name-end-reads.Asked,
-  name-end-reads.Learnt,
-  is-letter-or-digit-reads.Asked,
-  is-letter-or-digit-reads.Learnt,
-  tag-end-reads.Asked,
-  tag-end-reads.Learnt,
-  content-below t,
-  content.Post,
-) (element-at t) element.Post
+element-returns-5 : (t : ℕ) → element-lts.Need-returns-5 (element-claims t) (element-at t) element.Post
 element-returns-5 t c = tag-stops (c .before .before .before .before .before .before .before .before .before .before .before .before .before .before .before .pre .1 .0) (sym (c .before .before .before .before .before .before .before .before .before .before .before .before .is-letter .ensures) ∙ not-false _ (c .before .before .before .before .before .before .before .before .before .before .before .if1 .left)) (c .before .before .before .before .before .before .before .before .before .name-end .ensures) (c .before .before .before .before .before .before .before .before .before .before .if2 .left) (c .before .before .before .tag-end .ensures) (c .before .n .given .1)
 
--- src/lib.rt:309:1
-element-returns-6 : (t : ℕ) → element-lts.Need-returns-6 (
-  is-letter-reads.Asked,
-  is-letter-reads.Learnt,
-  name-end-reads.Asked,
-  name-end-reads.Learnt,
-  is-letter-or-digit-reads.Asked,
-  is-letter-or-digit-reads.Learnt,
-  tag-end-reads.Asked,
-  tag-end-reads.Learnt,
-  content-below t,
-  content.Post,
-) (element-at t) element.Post
+element-returns-6 : (t : ℕ) → element-lts.Need-returns-6 (element-claims t) (element-at t) element.Post
 element-returns-6 t c = element-read (c .before .before .before .before .before .before .before .before .before .before .before .before .before .before .before .before .before .pre .1 .0) (sym (c .before .before .before .before .before .before .before .before .before .before .before .before .before .before .is-letter .ensures) ∙ not-false _ (c .before .before .before .before .before .before .before .before .before .before .before .before .before .if1 .left)) (c .before .before .before .before .before .before .before .before .before .before .before .name-end .ensures) (c .before .before .before .before .before .before .before .before .before .before .before .before .if2 .left) (c .before .before .before .before .before .tag-end .ensures) (c .before .before .before .p .given .1) (omega arith) (c .content .ensures)
 
 pub +children+content+element-spec : {M : Type 1} → statement M
-+children+content+element-spec = close μ-children μ-content μ-element (λ t. children-lts.spec (
-  white-end-reads.Asked,
-  white-end-reads.Learnt,
-  child-at-reads.Asked,
-  child-at-reads.Learnt,
-  end-tag-reads.Asked,
-  end-tag-reads.Learnt,
-  element-below t,
-  element.Post,
-)
++children+content+element-spec = close μ-children μ-content μ-element (λ t. children-lts.spec (children-claims t)
     (children-at t)
     children.Post
     children-Inv-loop
@@ -743,18 +227,7 @@ pub +children+content+element-spec : {M : Type 1} → statement M
     (children-enum-known-q t)
     (children-loop-less t)
     (children-loop-again t))
-    (λ t. content-lts.spec (
-      white-end-reads.Asked,
-      white-end-reads.Learnt,
-      child-at-reads.Asked,
-      child-at-reads.Learnt,
-      text-reads.Asked,
-      text-reads.Learnt,
-      element-below t,
-      element.Post,
-      children-below t,
-      children.Post,
-    )
+    (λ t. content-lts.spec (content-claims t)
     (content-at t)
     content.Post
     (content-white-end-requires t)
@@ -768,18 +241,7 @@ pub +children+content+element-spec : {M : Type 1} → statement M
     (content-children-requires t)
     (content-returns-2 t)
     (content-returns-3 t))
-    λ t. element-lts.spec (
-      is-letter-reads.Asked,
-      is-letter-reads.Learnt,
-      name-end-reads.Asked,
-      name-end-reads.Learnt,
-      is-letter-or-digit-reads.Asked,
-      is-letter-or-digit-reads.Learnt,
-      tag-end-reads.Asked,
-      tag-end-reads.Learnt,
-      content-below t,
-      content.Post,
-    )
+    λ t. element-lts.spec (element-claims t)
     (element-at t)
     element.Post
     (element-shared-slice-read-is-letter t)
