@@ -1,8 +1,8 @@
 -- Byte classes as the code tests them: one test after the other.
 use Prim.Native.Nat.{ℕ, _≤_, _<_}
 use Prim.Native.Char.{Char, code}
-use mathlib.Core.Bool.{Bool, true, false, _&&_, _||_, not, or-false, or-true, and-true}
-use mathlib.Core.Path.{_≡_, refl, sym, ap, _∙_}
+use mathlib.Core.Bool.{true, false, or-false, or-true, and-true}
+use mathlib.Core.Path.{_≡_, sym}
 use native.Mathlib.Omega.{arith}
 use lib.Dec.{eqb, leb}
 use borrow.Author.Tests.{ne-eqb, le-leb, lt-leb}

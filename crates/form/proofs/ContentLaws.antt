@@ -1,22 +1,22 @@
 -- How the machine runs on over what an element holds: text, children, end tags; and over a child.
-use Prim.Native.Nat.{ℕ, zero, suc, _+_, _-_, _≤_, _<_}
+use Prim.Native.Nat.{ℕ, suc, _+_, _-_, _≤_, _<_}
 use mathlib.Core.List.{List, [], _∷_, _++_}
-use mathlib.Core.Option.{Option, none, some}
+use mathlib.Core.Option.{none, some}
 use mathlib.Core.Bool.{Bool, true, false}
 use mathlib.Core.Path.{_≡_, refl, sym, ap, _∙_}
 use native.Mathlib.Decide.{decLe}
 use native.Mathlib.Omega.{arith}
 use lib.ListN.{length, getD, take, drop}
-use lib.Dec.{eqb, leb}
+use lib.Dec.{eqb}
 use borrow.Author.Tests.{eqb-true, eqb-false, ne-eqb, le-leb, lt-leb}
-use Rattle.paper.specs.Bytes.{if_then_else_, bytes, is, from-to, one-of, white, text-byte, capital, letter, letter-or-digit}
+use Rattle.paper.specs.Bytes.{bytes, is, from-to, one-of, white, text-byte, capital, letter, letter-or-digit}
 use Rattle.paper.specs.Form.{Element, Elements, holding-text, holding-elements, []ᵉ, _∷ᵉ_, end-tag}
-use Rattle.paper.specs.Reading.{Open, closed, State, fixed, angle, naming, blank, text, among, want, ending, step, ended, stops-at}
-use Rattle.form.specs.Scans.{from, Scanned, stops, Word, Read, Tag, Opened, Through, White, Spelt, Name, Text, Child, ChildAt, TextOf, ContentOf, ChildrenOf, ElementAt}
+use Rattle.paper.specs.Reading.{Open, closed, State, angle, naming, blank, text, among, want, ending, step, ended, stops-at}
+use Rattle.form.specs.Scans.{from, Scanned, stops, Word, Tag, Opened, White, Name, Text, Child, ChildAt, TextOf, ContentOf, ChildrenOf, ElementAt}
 use Rattle.form.specs.declared.Scan.{Scan}
 use Rattle.form.specs.declared.Scan.the-variants.{To, StopsAt}
-use Rattle.form.proofs.Complete.{text-no-angle, among-stays}
-use Rattle.form.proofs.Laws.{from-next, from-stuck, from-short, want-step, want-stuck, want-append, text-step, Reached, reached, halts, first, via, giving, chain}
+use Rattle.form.proofs.Complete.{among-stays}
+use Rattle.form.proofs.Laws.{from-next, from-stuck, from-short, want-step, want-stuck, want-append, text-step, reached, halts, first, via, giving, chain}
 
 -- two states from which the machine runs alike
 module _ (s : List ℕ) (q r : State) (p : ℕ) where

@@ -1,8 +1,8 @@
 -- How the machine runs on over a message in place: what one byte, the end of the message, and each loop of the code come to.
-use Prim.Native.Nat.{ℕ, zero, suc, _+_, _-_, _≤_, _<_}
-use mathlib.Core.List.{List, [], _∷_, _++_, append-assoc, append-nil}
-use mathlib.Core.Option.{Option, none, some}
-use mathlib.Core.Bool.{Bool, true, false, _&&_}
+use Prim.Native.Nat.{ℕ, suc, _+_, _-_, _≤_, _<_}
+use mathlib.Core.List.{List, [], _∷_, _++_}
+use mathlib.Core.Option.{none, some}
+use mathlib.Core.Bool.{Bool, true, false}
 use mathlib.Core.Path.{_≡_, refl, sym, ap, _∙_}
 use native.Mathlib.Numerals.{add-one}
 use native.Mathlib.Decide.{decLe}
@@ -11,9 +11,9 @@ use lib.ListN.{length, getD, take, drop, length-drop, drop-of-length-le}
 use lib.Seq.{drop-cons, take-suc, getD-drop}
 use lib.Dec.{eqb}
 use borrow.Author.Tests.{eq-eqb, ne-eqb, eqb-true, eqb-false}
-use Rattle.paper.specs.Bytes.{if_then_else_, bytes, is, white, text-byte, capital, letter, letter-or-digit, same}
-use Rattle.paper.specs.Form.{Element, Elements}
-use Rattle.paper.specs.Reading.{Open, State, fixed, naming, blank, text, want, named, step, ended, run, Reading, stops-at}
+use Rattle.paper.specs.Bytes.{white, text-byte, letter-or-digit, same}
+use Rattle.paper.specs.Form.{Element}
+use Rattle.paper.specs.Reading.{Open, State, naming, blank, text, want, step, ended, run, stops-at}
 use Rattle.form.specs.Scans.{from, Scanned, to, stops, Stays, Through, Along, Spelt}
 use Rattle.form.specs.declared.Scan.{Scan}
 use Rattle.form.specs.declared.Scan.the-variants.{To, StopsAt}

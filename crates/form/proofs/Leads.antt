@@ -1,14 +1,12 @@
 -- How the machine of `paper` goes from a state to a state over some bytes, and what that says of its run.
 use Prim.Native.Nat.{ℕ, suc, _+_}
-use mathlib.Core.List.{List, [], _∷_, _++_, append-assoc}
-use mathlib.Core.Option.{Option, none, some}
-use mathlib.Core.Bool.{Bool, true, false}
+use mathlib.Core.List.{List, [], _∷_, _++_}
+use mathlib.Core.Option.{none, some}
 use mathlib.Core.Path.{_≡_, refl, sym, _∙_}
 use native.Mathlib.Nat.{add-suc, add-zero, suc-add}
 use lib.ListN.{length}
 use borrow.Author.Tests.{eq-eqb}
-use Rattle.paper.specs.Bytes.{if_then_else_, white, Every, none as all-done, more}
-use Rattle.paper.specs.Form.{Element}
+use Rattle.paper.specs.Bytes.{white, Every, none as all-done, more}
 use Rattle.form.specs.Scans.{Stays}
 use Rattle.paper.specs.Reading.{State, fixed, want, step, run, stops-at}
 

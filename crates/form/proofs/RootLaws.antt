@@ -1,27 +1,25 @@
 -- How the machine runs on over the whole message: the declaration, the root, the white space around it, and what that says of the form.
-use Prim.Native.Nat.{ℕ, zero, suc, _+_, _≤_, _<_}
-use mathlib.Core.List.{List, [], _∷_}
-use mathlib.Core.Option.{Option, none, some}
+use Prim.Native.Nat.{ℕ, _≤_, _<_}
+use mathlib.Core.List.{List, []}
+use mathlib.Core.Option.{none, some}
 use mathlib.Core.Bool.{Bool, true, false}
-use mathlib.Core.Path.{_≡_, refl, sym, ap, _∙_}
+use mathlib.Core.Path.{_≡_, refl, _∙_}
 use native.Mathlib.Decide.{decLe}
 use native.Mathlib.Omega.{arith}
 use lib.ListN.{length, getD, drop, drop-of-length-le}
 use lib.Dec.{eqb}
 use borrow.Author.Tests.{eqb-true, eqb-false, ne-eqb}
-use Rattle.paper.specs.Bytes.{if_then_else_, bytes, is, one-of, white}
-use Rattle.paper.specs.Form.{Element, root-tag, declaration, FirstImpossible}
-use Rattle.paper.specs.Form.{OfTheForm as IsOfTheForm}
-use Rattle.paper.specs.Reading.{Open, State, opening, opened, before, blank, after, want, in-root, step, ended, run, read, root-is, stops-at}
+use Rattle.paper.specs.Bytes.{bytes, is, one-of, white}
+use Rattle.paper.specs.Form.{Element, root-tag, declaration}
+use Rattle.paper.specs.Reading.{opening, opened, before, after, want, in-root, step, ended, run, read, root-is}
 use Rattle.form.specs.Answers.{Says}
 use Rattle.form.specs.Scans.{from, Scanned, Word, White, ContentOf, Prologue, RootAt}
-use Rattle.form.specs.declared.Form.{Form}
 use Rattle.form.specs.declared.Form.the-variants.{OfTheForm, RefusedAt}
 use Rattle.form.specs.declared.Scan.{Scan}
 use Rattle.form.specs.declared.Scan.the-variants.{To, StopsAt}
 use Rattle.form.proofs.Complete.{opened-by, after-stays, before-stays}
 use Rattle.form.proofs.Decides.{stop-is-refusal, root-is-form}
-use Rattle.form.proofs.Laws.{from-next, from-stuck, from-short, want-step, want-stuck, went, reached, halted, halts, first, via, giving, chain}
+use Rattle.form.proofs.Laws.{from-stuck, want-step, want-stuck, reached, halted, halts, first, via, chain}
 use Rattle.form.proofs.ContentLaws.{alike-short, alike-stuck, alike-next}
 
 -- the declaration, which begins with `<?`

@@ -1,17 +1,17 @@
 -- How the machine runs on over a start tag: behind its name, and over the currency of an amount.
-use Prim.Native.Nat.{ℕ, zero, suc, _+_, _-_, _≤_, _<_}
+use Prim.Native.Nat.{ℕ, zero, suc, _+_, _≤_, _<_}
 use mathlib.Core.List.{List, [], _∷_, _++_}
-use mathlib.Core.Option.{Option, none, some}
+use mathlib.Core.Option.{none, some}
 use mathlib.Core.Bool.{Bool, true, false}
-use mathlib.Core.Path.{_≡_, refl, sym, ap, _∙_}
+use mathlib.Core.Path.{_≡_, refl, sym, _∙_}
 use native.Mathlib.Decide.{decLe}
 use native.Mathlib.Omega.{arith}
-use lib.ListN.{length, getD, drop}
+use lib.ListN.{length, getD}
 use borrow.Author.Tests.{eqb-true}
-use Rattle.paper.specs.Bytes.{if_then_else_, bytes, is, capital, letter-or-digit, same}
+use Rattle.paper.specs.Bytes.{bytes, is, capital, letter-or-digit, same}
 use Rattle.paper.specs.Form.{Element, amount-tag}
-use Rattle.paper.specs.Reading.{Open, State, naming, capitals, blank, want, named, in-amount, step, ended, run, stops-at}
-use Rattle.form.specs.Scans.{from, Scanned, Word, Capitals, CapitalAt, Tag, Opened, opens-currency, stops}
+use Rattle.paper.specs.Reading.{State, naming, capitals, blank, named, in-amount, step, ended, stops-at}
+use Rattle.form.specs.Scans.{from, Word, Capitals, CapitalAt, Tag, Opened, opens-currency, stops}
 use Rattle.form.specs.declared.Scan.{Scan}
 use Rattle.form.specs.declared.Scan.the-variants.{To, StopsAt}
 use Rattle.form.proofs.Complete.{same-true, close-name}

@@ -1,5 +1,5 @@
 -- What the functions inside `form` say: how the machine of `paper` runs on from where they begin to where they end.
-use Prim.Native.Nat.{ℕ, suc, _+_, _-_, _≤_, _<_}
+use Prim.Native.Nat.{ℕ, _+_, _-_, _≤_, _<_}
 use mathlib.Core.List.{List, [], _∷_}
 use mathlib.Core.Option.{some}
 use mathlib.Core.Bool.{Bool, true, false}

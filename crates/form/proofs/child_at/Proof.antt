@@ -1,46 +1,33 @@
 -- `form::child_at` meets its contract.
-use Prim.Native.Nat.{ℕ, _+_, _-_, _≤_, _<_}
-use mathlib.Core.Path.{_≡_, refl, sym, ap, _∙_}
 use native.Mathlib.Omega.{arith}
-use lib.ListN.{length, getD, drop}
 use borrow.Author.Tests.{not-true, not-false}
 use mathlib.Core.Bool.{false≢true}
 use borrow.Author.Tests.{eqb-true, eqb-false}
 use borrow.Author.Needs.{needs}
 use Rattle.form.proofs.child_at.Statement.{statement}
 use Rattle.form.proofs.child_at.Tie as tie
-use Rattle.form.proofs.child_at.Reads as reads
-use Rattle.form.proofs.child_at.Lts as lts
 
--- src/lib.rt:261:9
 returns : tie.Need-returns
 returns c = record { there = λ e. absurd (false≢true e); not-there = λ _ h. absurd (omega (arith, h .within)) }
 
--- src/lib.rt:263:8
 shared-slice-read-if2 : tie.Need-shared-slice-read-if2
 shared-slice-read-if2 c = search needs
 
--- src/lib.rt:264:9
 returns-2 : tie.Need-returns-2
 returns-2 c = record { there = λ e. absurd (false≢true e); not-there = λ _ h. c .if2 .taken (h .angled) }
 
--- src/lib.rt:266:8
 add-if3 : tie.Need-add-if3
 add-if3 c = search needs
 
--- src/lib.rt:267:9
 returns-3 : tie.Need-returns-3
 returns-3 c = record { there = λ e. absurd (false≢true e); not-there = λ _ h. absurd (omega (arith, h .within)) }
 
--- src/lib.rt:269:7
 add-result : tie.Need-add-result
 add-result c = search needs
 
--- src/lib.rt:269:5
 shared-slice-read-result : tie.Need-shared-slice-read-result
 shared-slice-read-result c = search needs
 
--- src/lib.rt:256:1
 returns-4 : tie.Need-returns-4
 returns-4 c = record { there = λ e. record { angled = c .before .before .if2 .left; within = search needs; no-slash = eqb-false _ _ (not-true _ e) }; not-there = λ e h. h .no-slash (eqb-true _ _ (not-false _ e)) }
 

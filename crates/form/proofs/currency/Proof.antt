@@ -1,68 +1,46 @@
 -- `form::currency` meets its contract: `Ccy="`, three capitals, and then `">`.
-use Prim.Native.Nat.{ℕ, _+_, _-_, _≤_, _<_}
-use mathlib.Core.Path.{_≡_, refl, sym, ap, _∙_}
-use native.Mathlib.Omega.{arith}
-use lib.ListN.{length, getD, drop}
-use borrow.Author.Tests.{not-true, not-false}
 use Rattle.paper.specs.Bytes.{bytes}
-use Rattle.paper.specs.Reading.{want}
 use Rattle.form.proofs.Laws.{reached}
 use Rattle.form.proofs.TagLaws.{currency-stops, letters-stop, currency-read}
 use borrow.Author.Needs.{needs}
 use Rattle.form.proofs.currency.Statement.{statement}
 use Rattle.form.proofs.currency.Tie as tie
-use Rattle.form.proofs.currency.Reads as reads
-use Rattle.form.proofs.currency.Lts as lts
-use Rattle.form.proofs.three_capitals.Reads as three-capitals-reads
-use Rattle.form.proofs.word.Reads as word-reads
 
--- src/lib.rt:203:23
 slice-aggregate-word : tie.Need-slice-aggregate-word
 slice-aggregate-word c = search needs
 
--- src/lib.rt:203:11
 word-requires : tie.Need-word-requires
 word-requires c κs = search needs
 
--- src/lib.rt:204:23
 enum-known-n : tie.Need-enum-known-n
 enum-known-n c = search needs
 
--- src/lib.rt:205:18
 enum-known-p : tie.Need-enum-known-p
 enum-known-p c = search needs
 
--- src/lib.rt:205:30
 three-capitals-requires : tie.Need-three-capitals-requires
 three-capitals-requires c κs = reached (c .before .before .before .word .ensures) (c .before .p .given .1) .within
 
--- src/lib.rt:206:27
 enum-known-n-2 : tie.Need-enum-known-n-2
 enum-known-n-2 c = search needs
 
--- src/lib.rt:207:22
 enum-known-q : tie.Need-enum-known-q
 enum-known-q c = search needs
 
--- src/lib.rt:207:39
 slice-aggregate-word-2 : tie.Need-slice-aggregate-word-2
 slice-aggregate-word-2 c = search needs
 
--- src/lib.rt:207:28
 word-requires-2 : tie.Need-word-requires-2
 word-requires-2 c κs = reached (c .before .before .before .before .three-capitals .ensures) (c .before .before .q .given .1) .within
 
--- src/lib.rt:199:1
 returns : tie.Need-returns
 unfolding bytes
 returns c = λ depth lt. currency-stops (c .before .before .before .before .before .before .args .s .now) depth lt (c .before .before .before .before .before .before .args .at) _ (c .before .before .before .word .ensures) (c .before .n .given .1)
 
--- src/lib.rt:199:1
 returns-2 : tie.Need-returns-2
 unfolding bytes
 returns-2 c = λ depth lt. letters-stop (c .before .before .before .before .before .before .before .before .before .before .args .s .now) depth lt (c .before .before .before .before .before .before .before .before .before .before .args .at) _ _ (c .before .before .before .before .before .before .before .word .ensures) (c .before .before .before .before .before .p .given .1) (c .before .before .before .three-capitals .ensures) (c .before .n2 .given .1)
 
--- src/lib.rt:199:1
 returns-3 : tie.Need-returns-3
 unfolding bytes
 returns-3 c = λ depth lt. currency-read (c .before .before .before .before .before .before .before .before .before .before .before .before .args .s .now) depth lt (c .before .before .before .before .before .before .before .before .before .before .before .before .args .at) _ _ (c .before .before .before .before .before .before .before .before .before .word .ensures) (c .before .before .before .before .before .before .before .p .given .1) (c .before .before .before .before .before .three-capitals .ensures) (c .before .before .before .q .given .1) (c .word2 .ensures)

@@ -1,9 +1,4 @@
 -- `form::end_tag` meets its contract: `</`, the name, and then `>`.
-use Prim.Native.Nat.{ℕ, _+_, _-_, _≤_, _<_}
-use mathlib.Core.Path.{_≡_, refl, sym, ap, _∙_}
-use native.Mathlib.Omega.{arith}
-use lib.ListN.{length, getD, drop}
-use borrow.Author.Tests.{not-true, not-false}
 use Rattle.paper.specs.Bytes.{bytes}
 use Rattle.paper.specs.Reading.{want}
 use mathlib.Core.List.{_++_}
@@ -12,57 +7,42 @@ use Rattle.form.proofs.Laws.{reached, halts, first, via, chain, want-ap
 use borrow.Author.Needs.{needs}
 use Rattle.form.proofs.end_tag.Statement.{statement}
 use Rattle.form.proofs.end_tag.Tie as tie
-use Rattle.form.proofs.end_tag.Reads as reads
-use Rattle.form.proofs.end_tag.Lts as lts
-use Rattle.form.proofs.word.Reads as word-reads
 
--- src/lib.rt:164:23
 slice-aggregate-word : tie.Need-slice-aggregate-word
 slice-aggregate-word c = search needs
 
--- src/lib.rt:164:11
 word-requires : tie.Need-word-requires
 word-requires c κs = search needs
 
--- src/lib.rt:165:23
 enum-known-n : tie.Need-enum-known-n
 enum-known-n c = search needs
 
--- src/lib.rt:166:18
 enum-known-p : tie.Need-enum-known-p
 enum-known-p c = search needs
 
--- src/lib.rt:166:30
 word-requires-2 : tie.Need-word-requires-2
 word-requires-2 c κs = reached (c .before .before .before .word .ensures) (c .before .p .given .1) .within
 
--- src/lib.rt:167:27
 enum-known-n-2 : tie.Need-enum-known-n-2
 enum-known-n-2 c = search needs
 
--- src/lib.rt:168:22
 enum-known-q : tie.Need-enum-known-q
 enum-known-q c = search needs
 
--- src/lib.rt:168:39
 slice-aggregate-word-2 : tie.Need-slice-aggregate-word-2
 slice-aggregate-word-2 c = search needs
 
--- src/lib.rt:168:28
 word-requires-3 : tie.Need-word-requires-3
 word-requires-3 c κs = reached (c .before .before .before .before .word2 .ensures) (c .before .before .q .given .1) .within
 
--- src/lib.rt:160:1
 returns : tie.Need-returns
 unfolding end-tag bytes
 returns c = first (search needs) (want-append (c .before .before .before .before .before .before .before .args .s .now) (bytes "</") (c .before .before .before .before .before .before .before .args .name .now ++ bytes ">") (c .before .before .before .before .before .before .before .args .at)) (halts (via (λ q. want (c .before .before .before .before .before .before .before .args .name .now ++ bytes ">") q) (c .before .before .before .word .ensures)) (c .before .n .given .1))
 
--- src/lib.rt:160:1
 returns-2 : tie.Need-returns-2
 unfolding end-tag bytes
 returns-2 c = first (search needs) (want-append (c .before .before .before .before .before .before .before .before .before .before .before .args .s .now) (bytes "</") (c .before .before .before .before .before .before .before .before .before .before .before .args .name .now ++ bytes ">") (c .before .before .before .before .before .before .before .before .before .before .before .args .at)) (chain (via (λ q. want (c .before .before .before .before .before .before .before .before .before .before .before .args .name .now ++ bytes ">") q) (c .before .before .before .before .before .before .before .word .ensures)) (c .before .before .before .before .before .p .given .1) (λ _. first (search needs) (want-append (c .before .before .before .before .before .before .before .before .before .before .before .args .s .now) (c .before .before .before .before .before .before .before .before .before .before .before .args .name .now) (bytes ">") _) (halts (via (λ q. want (bytes ">") q) (c .before .before .before .word2 .ensures)) (c .before .n2 .given .1))))
 
--- src/lib.rt:160:1
 returns-3 : tie.Need-returns-3
 unfolding end-tag bytes
 returns-3 c = first (search needs) (want-append (c .before .before .before .before .before .before .before .before .before .before .before .before .before .args .s .now) (bytes "</") (c .before .before .before .before .before .before .before .before .before .before .before .before .before .args .name .now ++ bytes ">") (c .before .before .before .before .before .before .before .before .before .before .before .before .before .args .at)) (chain (via (λ q. want (c .before .before .before .before .before .before .before .before .before .before .before .before .before .args .name .now ++ bytes ">") q) (c .before .before .before .before .before .before .before .before .before .word .ensures)) (c .before .before .before .before .before .before .before .p .given .1) (λ _. first (search needs) (want-append (c .before .before .before .before .before .before .before .before .before .before .before .before .before .args .s .now) (c .before .before .before .before .before .before .before .before .before .before .before .before .before .args .name .now) (bytes ">") _) (chain (via (λ q. want (bytes ">") q) (c .before .before .before .before .before .word2 .ensures)) (c .before .before .before .q .given .1) (λ _. c .word3 .ensures))))

@@ -1,16 +1,12 @@
 -- `form::equal` meets its contract. The loop has found the bytes equal so far, and what is left decides.
 use borrow.Author.Needs.{needs}
-use Prim.Native.Nat.{ℕ, _+_, _-_, _≤_, _<_}
-use mathlib.Core.Path.{_≡_, refl, sym, ap, _∙_}
-use native.Mathlib.Omega.{arith}
-use lib.ListN.{length, getD, drop}
-use borrow.Author.Tests.{not-true, not-false}
+use Prim.Native.Nat.{_-_, _≤_}
+use mathlib.Core.Path.{_≡_, refl, sym, _∙_}
+use lib.ListN.{length, drop}
 use Rattle.paper.specs.Bytes.{same}
 use Rattle.form.proofs.Laws.{same-next, same-differs, same-longer, same-end}
 use Rattle.form.proofs.equal.Statement.{statement}
 use Rattle.form.proofs.equal.Tie as tie
-use Rattle.form.proofs.equal.Reads as reads
-use Rattle.form.proofs.equal.Lts as lts
 
 abbrev Inv-loop : tie.InvT-loop
 Inv-loop a b i₀ i = (i ≤ length a) × (i ≤ length b) × (same a b ≡ same (drop i a) (drop i b))
@@ -18,39 +14,30 @@ Inv-loop a b i₀ i = (i ≤ length a) × (i ≤ length b) × (same a b ≡ same
 abbrev μ-loop : tie.MeasureT-loop
 μ-loop a b i₀ i = length a - i
 
--- src/lib.rt:127:5
 loop-holds : tie.Need-loop-holds Inv-loop μ-loop
 loop-holds c = (search needs, search needs, refl)
 
--- src/lib.rt:129:13
 returns : tie.Need-returns Inv-loop μ-loop
 returns c = sym (c .before .before .loop .inv .2 ∙ same-longer (c .before .before .before .args .a .now) (c .before .before .before .args .b .now) (c .before .before .loop .i) (search needs) (search needs))
 
--- src/lib.rt:131:12
 shared-slice-read-if2 : tie.Need-shared-slice-read-if2 Inv-loop μ-loop
 shared-slice-read-if2 c = search needs
 
--- src/lib.rt:131:20
 shared-slice-read-if2-2 : tie.Need-shared-slice-read-if2-2 Inv-loop μ-loop
 shared-slice-read-if2-2 c = search needs
 
--- src/lib.rt:132:13
 returns-2 : tie.Need-returns-2 Inv-loop μ-loop
 returns-2 c = sym (c .before .before .before .before .before .loop .inv .2 ∙ same-differs (c .before .before .before .before .before .before .args .a .now) (c .before .before .before .before .before .before .args .b .now) (c .before .before .before .before .before .loop .i) (search needs) (search needs) (c .if2 .taken))
 
--- src/lib.rt:134:9
 add-i : tie.Need-add-i Inv-loop μ-loop
 add-i c = search needs
 
--- src/lib.rt:127:5
 loop-less : tie.Need-loop-less Inv-loop μ-loop
 loop-less c = search needs
 
--- src/lib.rt:127:5
 loop-again : tie.Need-loop-again Inv-loop μ-loop
 loop-again c = (search needs, search needs, c .before .before .before .before .before .loop .inv .2 ∙ same-next (c .before .before .before .before .before .before .args .a .now) (c .before .before .before .before .before .before .args .b .now) (c .before .before .before .before .before .loop .i) (search needs) (search needs) (c .if2 .left))
 
--- src/lib.rt:123:1
 returns-3 : tie.Need-returns-3 Inv-loop μ-loop
 returns-3 c = same-end (c .before .before .args .a .now) (c .before .before .args .b .now) (c .before .loop .i) (search needs) (search needs) ∙ sym (c .before .loop .inv .2)
 

@@ -1,42 +1,28 @@
 -- `form::form_of` meets its contract: the root, and then white space up to the end of the message.
-use mathlib.Core.Path.{_≡_, refl, sym, _∙_}
-use native.Mathlib.Omega.{arith}
-use lib.ListN.{length}
 use Rattle.form.proofs.RootLaws.{refused, accepted, trailing}
 use Rattle.form.proofs.Laws.{reached}
 use borrow.Author.Needs.{needs}
 use Rattle.form.proofs.form_of.Statement.{statement}
 use Rattle.form.proofs.form_of.Tie as tie
-use Rattle.form.proofs.form_of.Reads as reads
-use Rattle.form.proofs.form_of.Lts as lts
-use Rattle.form.proofs.root.Reads as root-reads
-use Rattle.form.proofs.white_end.Reads as white-end-reads
 
--- src/lib.rt:371:11
 root-requires : tie.Need-root-requires
 root-requires c κs = search needs
 
--- src/lib.rt:372:23
 enum-known-n : tie.Need-enum-known-n
 enum-known-n c = search needs
 
--- src/lib.rt:373:18
 enum-known-p : tie.Need-enum-known-p
 enum-known-p c = search needs
 
--- src/lib.rt:374:17
 white-end-requires : tie.Need-white-end-requires
 white-end-requires c κs = reached (c .before .before .before .root .ensures) (c .before .p .given .1) .within
 
--- src/lib.rt:368:1
 returns : tie.Need-returns
 returns c = refused (c .before .before .before .root .ensures) (c .before .n .given .1)
 
--- src/lib.rt:368:1
 returns-2 : tie.Need-returns-2
 returns-2 c = accepted (c .before .before .before .before .before .root .ensures) (c .before .before .before .p .given .1) (c .before .white-end .ensures) (c .if1 .taken)
 
--- src/lib.rt:368:1
 returns-3 : tie.Need-returns-3
 returns-3 c = trailing (c .before .before .before .before .before .root .ensures) (c .before .before .before .p .given .1) (c .before .white-end .ensures) (c .if1 .left)
 

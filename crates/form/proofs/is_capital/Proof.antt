@@ -2,15 +2,11 @@ use Rattle.form.proofs.ByteLaws.{below, reaching}
 use Rattle.paper.specs.Bytes.{capital}
 use Rattle.form.proofs.is_capital.Statement.{statement}
 use Rattle.form.proofs.is_capital.Tie as tie
-use Rattle.form.proofs.is_capital.Reads as reads
-use Rattle.form.proofs.is_capital.Lts as lts
 
--- src/lib.rt:61:9
 returns : tie.Need-returns
 unfolding capital
 returns c = below "A" "Z" _ (c .if1 .taken)
 
--- src/lib.rt:57:1
 returns-2 : tie.Need-returns-2
 unfolding capital
 returns-2 c = reaching "A" "Z" _ (c .if1 .left)

@@ -3,23 +3,16 @@ use mathlib.Core.Path.{sym, _∙_}
 use borrow.Author.Needs.{needs}
 use Rattle.form.proofs.is_letter.Statement.{statement}
 use Rattle.form.proofs.is_letter.Tie as tie
-use Rattle.form.proofs.is_letter.Reads as reads
-use Rattle.form.proofs.is_letter.Lts as lts
-use Rattle.form.proofs.is_capital.Reads as is-capital-reads
 
--- src/lib.rt:69:8
 is-capital-requires : tie.Need-is-capital-requires
 is-capital-requires c κs = search needs
 
--- src/lib.rt:70:9
 returns : tie.Need-returns
 returns c = letter-capital _ (sym (c .before .is-capital .ensures) ∙ c .if1 .taken)
 
--- src/lib.rt:73:9
 returns-2 : tie.Need-returns-2
 returns-2 c = below "a" "z" _ (c .if2 .taken) ∙ letter-small _ (sym (c .before .before .is-capital .ensures) ∙ c .before .if1 .left)
 
--- src/lib.rt:66:1
 returns-3 : tie.Need-returns-3
 returns-3 c = reaching "a" "z" _ (c .if2 .left) ∙ letter-small _ (sym (c .before .before .is-capital .ensures) ∙ c .before .if1 .left)
 

@@ -4,24 +4,17 @@ use Rattle.paper.specs.Bytes.{digit}
 use borrow.Author.Needs.{needs}
 use Rattle.form.proofs.is_letter_or_digit.Statement.{statement}
 use Rattle.form.proofs.is_letter_or_digit.Tie as tie
-use Rattle.form.proofs.is_letter_or_digit.Reads as reads
-use Rattle.form.proofs.is_letter_or_digit.Lts as lts
-use Rattle.form.proofs.is_letter.Reads as is-letter-reads
 
--- src/lib.rt:81:8
 is-letter-requires : tie.Need-is-letter-requires
 is-letter-requires c κs = search needs
 
--- src/lib.rt:82:9
 returns : tie.Need-returns
 returns c = letter-first _ (sym (c .before .is-letter .ensures) ∙ c .if1 .taken)
 
--- src/lib.rt:85:9
 returns-2 : tie.Need-returns-2
 unfolding digit
 returns-2 c = below "0" "9" _ (c .if2 .taken) ∙ digit-then _ (sym (c .before .before .is-letter .ensures) ∙ c .before .if1 .left)
 
--- src/lib.rt:78:1
 returns-3 : tie.Need-returns-3
 unfolding digit
 returns-3 c = reaching "0" "9" _ (c .if2 .left) ∙ digit-then _ (sym (c .before .before .is-letter .ensures) ∙ c .before .if1 .left)

@@ -5,29 +5,21 @@ use Rattle.paper.specs.Bytes.{text-byte, one-of, is}
 use borrow.Author.Needs.{needs}
 use Rattle.form.proofs.is_text.Statement.{statement}
 use Rattle.form.proofs.is_text.Tie as tie
-use Rattle.form.proofs.is_text.Reads as reads
-use Rattle.form.proofs.is_text.Lts as lts
-use Rattle.form.proofs.is_white.Reads as is-white-reads
 
--- src/lib.rt:46:9
 returns : tie.Need-returns
 unfolding text-byte one-of is
 returns c = rw (c .if1 .taken)
 
--- src/lib.rt:49:9
 returns-2 : tie.Need-returns-2
 unfolding text-byte one-of is
 returns-2 c = rw (c .if2 .taken)
 
--- src/lib.rt:52:9
 returns-3 : tie.Need-returns-3
 returns-3 c = text-high _ (c .before .before .if1 .left) (c .before .if2 .left) (c .if3 .taken) (omega arith)
 
--- src/lib.rt:54:5
 is-white-requires : tie.Need-is-white-requires
 is-white-requires c κs = search needs
 
--- src/lib.rt:42:1
 returns-4 : tie.Need-returns-4
 returns-4 c = c .is-white .ensures ∙ text-white _ (c .before .before .before .if1 .left) (c .before .before .if2 .left) (c .before .if3 .left)
 

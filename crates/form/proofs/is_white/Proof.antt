@@ -2,25 +2,19 @@ use Rattle.form.proofs.ByteLaws.{white-last}
 use Rattle.paper.specs.Bytes.{white, one-of, is}
 use Rattle.form.proofs.is_white.Statement.{statement}
 use Rattle.form.proofs.is_white.Tie as tie
-use Rattle.form.proofs.is_white.Reads as reads
-use Rattle.form.proofs.is_white.Lts as lts
 
--- src/lib.rt:31:9
 returns : tie.Need-returns
 unfolding white one-of is
 returns c = rw (c .if1 .taken)
 
--- src/lib.rt:34:9
 returns-2 : tie.Need-returns-2
 unfolding white one-of is
 returns-2 c = rw (c .if2 .taken)
 
--- src/lib.rt:37:9
 returns-3 : tie.Need-returns-3
 unfolding white one-of is
 returns-3 c = rw (c .if3 .taken)
 
--- src/lib.rt:27:1
 returns-4 : tie.Need-returns-4
 returns-4 c = white-last _ (c .before .before .if1 .left) (c .before .if2 .left) (c .if3 .left)
 

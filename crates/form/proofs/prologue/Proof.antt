@@ -1,7 +1,5 @@
 -- `form::prologue` meets its contract: the declaration, if the message begins with `<?`.
-use mathlib.Core.Path.{_≡_, refl, sym, _∙_}
 use native.Mathlib.Omega.{arith}
-use lib.ListN.{length}
 use Rattle.paper.specs.Reading.{before}
 use Rattle.paper.specs.Form.{declaration}
 use Rattle.paper.specs.Bytes.{bytes}
@@ -10,39 +8,28 @@ use Rattle.form.proofs.Laws.{went, first, via}
 use borrow.Author.Needs.{needs}
 use Rattle.form.proofs.prologue.Statement.{statement}
 use Rattle.form.proofs.prologue.Tie as tie
-use Rattle.form.proofs.prologue.Reads as reads
-use Rattle.form.proofs.prologue.Lts as lts
-use Rattle.form.proofs.word.Reads as word-reads
 
--- src/lib.rt:337:9
 returns : tie.Need-returns
 returns c = went (omega arith) (omega arith) tt (λ _. undeclared (c .before .before .args .s .now) (λ l e f. absurd (omega arith)))
 
--- src/lib.rt:339:8
 shared-slice-read-if2 : tie.Need-shared-slice-read-if2
 shared-slice-read-if2 c = search needs
 
--- src/lib.rt:340:9
 returns-2 : tie.Need-returns-2
 returns-2 c = went (omega arith) (omega arith) tt (λ _. undeclared (c .before .before .before .before .args .s .now) (λ l e f. absurd (c .if2 .taken e)))
 
--- src/lib.rt:342:8
 shared-slice-read-if3 : tie.Need-shared-slice-read-if3
 shared-slice-read-if3 c = search needs
 
--- src/lib.rt:343:9
 returns-3 : tie.Need-returns-3
 returns-3 c = went (omega arith) (omega arith) tt (λ _. undeclared (c .before .before .before .before .before .before .args .s .now) (λ l e f. absurd (c .if3 .taken f)))
 
--- src/lib.rt:345:16
 slice-aggregate-word : tie.Need-slice-aggregate-word
 slice-aggregate-word c = search needs
 
--- src/lib.rt:345:5
 word-requires : tie.Need-word-requires
 word-requires c κs = search needs
 
--- src/lib.rt:333:1
 returns-4 : tie.Need-returns-4
 unfolding declaration bytes
 returns-4 c = first (omega arith) (λ _. declared (c .before .before .before .before .before .before .before .before .args .s .now) (search needs) (c .before .before .before .before .if2 .left) (c .before .before .if3 .left)) (via (λ _. before) (c .word .ensures))

@@ -1,43 +1,28 @@
 -- `form::root` meets its contract: perhaps the declaration, white space, and the root.
-use mathlib.Core.Path.{_≡_, refl, sym, _∙_}
-use native.Mathlib.Omega.{arith}
-use lib.ListN.{length}
 use Rattle.form.proofs.RootLaws.{prologue-stops, whole-root}
 use Rattle.form.proofs.Laws.{reached}
 use borrow.Author.Needs.{needs}
 use Rattle.form.proofs.root.Statement.{statement}
 use Rattle.form.proofs.root.Tie as tie
-use Rattle.form.proofs.root.Reads as reads
-use Rattle.form.proofs.root.Lts as lts
-use Rattle.form.proofs.prologue.Reads as prologue-reads
-use Rattle.form.proofs.root_at.Reads as root-at-reads
-use Rattle.form.proofs.white_end.Reads as white-end-reads
 
--- src/lib.rt:361:11
 prologue-requires : tie.Need-prologue-requires
 prologue-requires c κs = search needs
 
--- src/lib.rt:362:23
 enum-known-n : tie.Need-enum-known-n
 enum-known-n c = search needs
 
--- src/lib.rt:363:18
 enum-known-p : tie.Need-enum-known-p
 enum-known-p c = search needs
 
--- src/lib.rt:363:35
 white-end-requires : tie.Need-white-end-requires
 white-end-requires c κs = reached (c .before .before .before .prologue .ensures) (c .before .p .given .1) .within
 
--- src/lib.rt:363:24
 root-at-requires : tie.Need-root-at-requires
 root-at-requires c κs = (c .white-end .ensures .through .within, c .white-end .ensures .other)
 
--- src/lib.rt:358:1
 returns : tie.Need-returns
 returns c = prologue-stops (c .before .before .before .prologue .ensures) (c .before .n .given .1)
 
--- src/lib.rt:358:1
 returns-2 : tie.Need-returns-2
 returns-2 c = whole-root (c .before .before .before .before .before .prologue .ensures) (c .before .before .before .p .given .1) (c .before .white-end .ensures) (c .root-at .ensures)
 

@@ -1,7 +1,5 @@
 -- `form::root_at` meets its contract: the root's start tag, and then what it holds.
-use mathlib.Core.Path.{_≡_, refl, sym, _∙_}
 use native.Mathlib.Omega.{arith}
-use lib.ListN.{length}
 use Rattle.paper.specs.Form.{root-tag}
 use Rattle.paper.specs.Bytes.{bytes}
 use Rattle.form.proofs.RootLaws.{root-stops, root-read}
@@ -9,41 +7,29 @@ use Rattle.form.proofs.Laws.{reached}
 use borrow.Author.Needs.{needs}
 use Rattle.form.proofs.root_at.Statement.{statement}
 use Rattle.form.proofs.root_at.Tie as tie
-use Rattle.form.proofs.root_at.Reads as reads
-use Rattle.form.proofs.root_at.Lts as lts
-use Rattle.form.proofs.content.Reads as content-reads
-use Rattle.form.proofs.word.Reads as word-reads
 
--- src/lib.rt:352:23
 slice-aggregate-word : tie.Need-slice-aggregate-word
 slice-aggregate-word c = search needs
 
--- src/lib.rt:352:11
 word-requires : tie.Need-word-requires
 word-requires c κs = search needs
 
--- src/lib.rt:353:23
 enum-known-n : tie.Need-enum-known-n
 enum-known-n c = search needs
 
--- src/lib.rt:354:18
 enum-known-p : tie.Need-enum-known-p
 enum-known-p c = search needs
 
--- src/lib.rt:354:35
 slice-aggregate-content : tie.Need-slice-aggregate-content
 slice-aggregate-content c = search needs
 
--- src/lib.rt:354:24
 content-requires : tie.Need-content-requires
 content-requires c κs = (reached (c .before .before .before .before .word .ensures) (c .before .before .p .given .1) .within, omega arith)
 
--- src/lib.rt:348:1
 returns : tie.Need-returns
 unfolding root-tag bytes
 returns c = root-stops (c .before .before .before .before .before .before .pre .1) (c .before .before .before .word .ensures) (c .before .n .given .1)
 
--- src/lib.rt:348:1
 returns-2 : tie.Need-returns-2
 unfolding root-tag bytes
 returns-2 c = root-read (c .before .before .before .before .before .before .before .before .pre .1) (c .before .before .before .before .before .word .ensures) (c .before .before .before .p .given .1) (c .content .ensures)

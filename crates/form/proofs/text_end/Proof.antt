@@ -1,17 +1,14 @@
 -- `form::text_end` meets its contract. The loop has passed text alone.
 use borrow.Author.Needs.{needs}
-use Prim.Native.Nat.{ℕ, _+_, _-_, _≤_, _<_}
-use mathlib.Core.Path.{_≡_, refl, sym, ap, _∙_}
+use Prim.Native.Nat.{_-_}
+use mathlib.Core.Path.{sym, _∙_}
 use native.Mathlib.Omega.{arith}
-use lib.ListN.{length, getD, drop}
+use lib.ListN.{length}
 use borrow.Author.Tests.{not-true, not-false}
 use Rattle.form.specs.Scans.{Along}
 use Rattle.form.proofs.Laws.{along-start, along-next}
 use Rattle.form.proofs.text_end.Statement.{statement}
 use Rattle.form.proofs.text_end.Tie as tie
-use Rattle.form.proofs.text_end.Reads as reads
-use Rattle.form.proofs.text_end.Lts as lts
-use Rattle.form.proofs.is_text.Reads as is-text-reads
 
 abbrev Inv-loop : tie.InvT-loop
 Inv-loop s at i₀ i = Along s at i
@@ -19,35 +16,27 @@ Inv-loop s at i₀ i = Along s at i
 abbrev μ-loop : tie.MeasureT-loop
 μ-loop s at i₀ i = length s - i
 
--- src/lib.rt:238:5
 loop-holds : tie.Need-loop-holds Inv-loop μ-loop
 loop-holds c = along-start _ _ (search needs)
 
--- src/lib.rt:239:21
 shared-slice-read-is-text : tie.Need-shared-slice-read-is-text Inv-loop μ-loop
 shared-slice-read-is-text c = search needs
 
--- src/lib.rt:239:13
 is-text-requires : tie.Need-is-text-requires Inv-loop μ-loop
 is-text-requires c κs = search needs
 
--- src/lib.rt:240:13
 returns : tie.Need-returns Inv-loop μ-loop
 returns c = record { along = c .before .before .before .before .loop .inv; other = λ _. sym (c .before .is-text .ensures) ∙ not-true _ (c .if1 .taken) }
 
--- src/lib.rt:242:9
 add-i : tie.Need-add-i Inv-loop μ-loop
 add-i c = search needs
 
--- src/lib.rt:238:5
 loop-less : tie.Need-loop-less Inv-loop μ-loop
 loop-less c = search needs
 
--- src/lib.rt:238:5
 loop-again : tie.Need-loop-again Inv-loop μ-loop
 loop-again c = along-next _ (c .before .before .before .before .loop .inv) (search needs) (sym (c .before .is-text .ensures) ∙ not-false _ (c .if1 .left))
 
--- src/lib.rt:233:1
 returns-2 : tie.Need-returns-2 Inv-loop μ-loop
 returns-2 c = record { along = c .before .loop .inv; other = λ l. absurd (omega arith) }
 

@@ -1,17 +1,14 @@
 -- `form::white_end` meets its contract. The loop has passed white space alone.
 use borrow.Author.Needs.{needs}
-use Prim.Native.Nat.{ℕ, _+_, _-_, _≤_, _<_}
-use mathlib.Core.Path.{_≡_, refl, sym, ap, _∙_}
+use Prim.Native.Nat.{_-_}
+use mathlib.Core.Path.{sym, _∙_}
 use native.Mathlib.Omega.{arith}
-use lib.ListN.{length, getD, drop}
+use lib.ListN.{length}
 use borrow.Author.Tests.{not-true, not-false}
 use Rattle.form.specs.Scans.{Through}
 use Rattle.form.proofs.Laws.{through-start, through-next}
 use Rattle.form.proofs.white_end.Statement.{statement}
 use Rattle.form.proofs.white_end.Tie as tie
-use Rattle.form.proofs.white_end.Reads as reads
-use Rattle.form.proofs.white_end.Lts as lts
-use Rattle.form.proofs.is_white.Reads as is-white-reads
 
 abbrev Inv-loop : tie.InvT-loop
 Inv-loop s at i₀ i = Through s at i
@@ -19,35 +16,27 @@ Inv-loop s at i₀ i = Through s at i
 abbrev μ-loop : tie.MeasureT-loop
 μ-loop s at i₀ i = length s - i
 
--- src/lib.rt:96:5
 loop-holds : tie.Need-loop-holds Inv-loop μ-loop
 loop-holds c = through-start _ _ (search needs)
 
--- src/lib.rt:97:22
 shared-slice-read-is-white : tie.Need-shared-slice-read-is-white Inv-loop μ-loop
 shared-slice-read-is-white c = search needs
 
--- src/lib.rt:97:13
 is-white-requires : tie.Need-is-white-requires Inv-loop μ-loop
 is-white-requires c κs = search needs
 
--- src/lib.rt:98:13
 returns : tie.Need-returns Inv-loop μ-loop
 returns c = record { through = c .before .before .before .before .loop .inv; other = λ _. sym (c .before .is-white .ensures) ∙ not-true _ (c .if1 .taken) }
 
--- src/lib.rt:100:9
 add-i : tie.Need-add-i Inv-loop μ-loop
 add-i c = search needs
 
--- src/lib.rt:96:5
 loop-less : tie.Need-loop-less Inv-loop μ-loop
 loop-less c = search needs
 
--- src/lib.rt:96:5
 loop-again : tie.Need-loop-again Inv-loop μ-loop
 loop-again c = through-next _ (c .before .before .before .before .loop .inv) (search needs) (sym (c .before .is-white .ensures) ∙ not-false _ (c .if1 .left))
 
--- src/lib.rt:91:1
 returns-2 : tie.Need-returns-2 Inv-loop μ-loop
 returns-2 c = record { through = c .before .loop .inv; other = λ l. absurd (omega arith) }
 
