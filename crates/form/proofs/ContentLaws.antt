@@ -4,6 +4,7 @@ use mathlib.Core.List.{List, [], _∷_, _++_}
 use mathlib.Core.Option.{none, some}
 use mathlib.Core.Bool.{Bool, true, false}
 use mathlib.Core.Path.{_≡_, refl, sym, ap, _∙_}
+use mathlib.Core.Logic.{_⊎_, inl, inr, ⊎-elim}
 use native.Mathlib.Decide.{decLe}
 use native.Mathlib.Omega.{arith}
 use lib.ListN.{length, getD, take, drop}
@@ -12,7 +13,7 @@ use borrow.Author.Tests.{eqb-true, eqb-false, ne-eqb, le-leb, lt-leb}
 use Rattle.paper.specs.Bytes.{bytes, is, from-to, one-of, white, text-byte, capital, letter, letter-or-digit}
 use Rattle.paper.specs.Form.{Element, Elements, holding-text, holding-elements, []ᵉ, _∷ᵉ_, end-tag}
 use Rattle.paper.specs.Reading.{Open, closed, State, angle, naming, blank, text, among, want, ending, step, ended, stops-at}
-use Rattle.form.specs.Scans.{from, Scanned, stops, Word, Tag, Opened, White, Name, Text, Child, ChildAt, TextOf, ContentOf, ChildrenOf, ElementAt}
+use Rattle.form.specs.Scans.{from, Scanned, stops, Word, Tag, Opened, White, Name, Text, Child, ChildAt, TextOf, ContentOf, ElementAt}
 use Rattle.form.specs.declared.Scan.{Scan}
 use Rattle.form.specs.declared.Scan.the-variants.{To, StopsAt}
 use Rattle.form.proofs.Complete.{among-stays}
@@ -151,75 +152,90 @@ content-text {s} {p} w c n h = record {
       first (w .through .rises) (λ k. f k ∙ blank-is-text s o k p w′ (w .other) (c .not-there n)) (h o w′ e);
 }
 
--- a first child
-module _ {s : List ℕ} {at p left : ℕ} {c : Bool} {r : Scan} (w : White s at p) (h : ChildAt s p c) (e : c ≡ true) (x : ElementAt s (p + 1) left r) where
-  first-child : (o : Open) → o .depth + left ≡ 12 → Scanned s at (blank o []) (λ k (t : Element). among o (λ ts. t ∷ᵉ ts) k) r
-  first-child o d =
-      let (w′, f) = w .through .blanks o [] in
-      let l = w .through .rises in
-      first (omega arith) (λ k. f k ∙ blank-child s o k p w′ (h .there e))
-      (via (λ k. (ending o (holding-text (closed o p) w′) k, λ t. among o (λ ts. t ∷ᵉ ts) k)) (x .reads (suc (o .depth)) p (omega arith)))
-
-  pub content-stops : {name : List ℕ} {n : ℕ} → r ≡ StopsAt n → ContentOf s name at left (StopsAt n)
-  content-stops z = record { reads = λ o _ d. halts (first-child o d) z }
-
-  pub content-children : {name : List ℕ} {q : ℕ} {y : Scan} → r ≡ To q → ChildrenOf s name q left y → ContentOf s name at left y
-  content-children z g = record { reads = λ o i d. chain (first-child o d) z (λ t. g .reads o i d (λ ts. t ∷ᵉ ts)) }
-
 pub element-bounds : {s : List ℕ} {at left q : ℕ} {r : Scan} → left ≤ 12 → ElementAt s at left r → r ≡ To q → (at ≤ q) × (q ≤ length s)
 element-bounds {left} l x z = let g = reached (x .reads (13 - left) 0 (omega arith)) z in (g .rises, g .within)
 
--- Children that have been passed, from an offset to an offset.
-pub record Passed (s : List ℕ) (left at r : ℕ) : Type 0 where
-  pub rises : at ≤ r
-  pub within : r ≤ length s
-  pub passes : (o : Open) → o .depth + left ≡ 12 → (f : Elements → Elements)
-      → (f′ : Elements → Elements) × ((k : Element → State) → from s (among o f k) at ≡ from s (among o f′ k) r)
+-- Children have been passed, from where what the element holds starts to an offset.
+abbrev Passes : (s : List ℕ) (left start at : ℕ) → Type 0
+Passes s left start at =
+    (o : Open) → o .depth + left ≡ 12 → (f : Elements → Elements) × ((k : Element → State) → from s (blank o [] k) start ≡ from s (among o f k) at)
 
-pub none-passed : (s : List ℕ) (left at : ℕ) → at ≤ length s → Passed s left at at
-none-passed s left at h = record { rises = omega arith; within = h; passes = λ o _ f. (f, λ k. refl) }
+-- Nothing has been passed yet, or children.
+pub record Passed (s : List ℕ) (left start at : ℕ) : Type 0 where
+  pub rises : start ≤ at
+  pub within : at ≤ length s
+  pub passes : (at ≡ start) ⊎ Passes s left start at
 
-module _ {s : List ℕ} {left at m p : ℕ} {c : Bool} (b : Passed s left at m) (w : White s m p) (h : ChildAt s p c) where
-  pub children-end : c ≡ false → {name : List ℕ} {r : Scan} → Word s p (end-tag name) r → ChildrenOf s name at left r
-  children-end n g = record {
-    reads = λ o e d f.
-        let (f′, i) = b .passes o d f in
-        let l = b .rises in
-        let l′ = w .through .rises in
-        first (omega arith)
-        (λ k. i k ∙ (w .through .stays (among o f′ k) (among-stays o f′ k)
-        ∙ (among-ends s o k p f′ (w .other) (h .not-there n) ∙ ap (λ n. from s (want (end-tag n) (k (holding-elements (closed o p) (f′ []ᵉ)))) p) e)))
-        (giving (λ _. holding-elements (closed o p) (f′ []ᵉ)) (λ k _. refl) (via (λ k. k (holding-elements (closed o p) (f′ []ᵉ))) g));
-  }
+pub none-passed : (s : List ℕ) (left start : ℕ) → start ≤ length s → Passed s left start start
+none-passed s left start h = record { rises = omega arith; within = h; passes = inl refl }
 
-  module _ (e : c ≡ true) {r : Scan} (x : ElementAt s (p + 1) left r) where
-    next-child : (o : Open) → o .depth + left ≡ 12 → (f : Elements → Elements)
-        → (f′ : Elements → Elements) × Scanned s at (among o f) (λ k (t : Element). among o (λ ts. f′ (t ∷ᵉ ts)) k) r
-    next-child o d f =
-        let (f′, i) = b .passes o d f in
-        let l = b .rises in
-        let l′ = w .through .rises in (
-          f′,
-          first (omega arith) (λ k. i k ∙ (w .through .stays (among o f′ k) (among-stays o f′ k) ∙ among-child s o k p f′ (h .there e)))
-              (via (λ k. (ending o (holding-elements (closed o p) (f′ []ᵉ)) k, λ t. among o (λ ts. f′ (t ∷ᵉ ts)) k)) (x .reads (suc (o .depth)) p (omega arith))),
-        )
+-- behind children, the end tag
+pub content-end : {s name : List ℕ} {left start at p : ℕ} {c : Bool} {r : Scan} → Passed s left start at → White s at p → ChildAt s p c → c ≡ false
+    → (at ≡ start → ⊥) → Word s p (end-tag name) r → ContentOf s name start left r
+content-end {s} {name} {left} {start} {at} {p} {r = r} b w h n m g =
+    ⊎-elim (λ e. absurd (m e)) go (b .passes)
+  where
+    go : Passes s left start at → ContentOf s name start left r
+    go f = record {
+      reads = λ o e d.
+          let (f′, i) = f o d in
+          let l = b .rises in
+          let l′ = w .through .rises in
+          first (omega arith)
+          (λ k. i k ∙ (w .through .stays (among o f′ k) (among-stays o f′ k)
+          ∙ (among-ends s o k p f′ (w .other) (h .not-there n) ∙ ap (λ n. from s (want (end-tag n) (k (holding-elements (closed o p) (f′ []ᵉ)))) p) e)))
+          (giving (λ _. holding-elements (closed o p) (f′ []ᵉ)) (λ k _. refl) (via (λ k. k (holding-elements (closed o p) (f′ []ᵉ))) g));
+    }
 
-    pub children-stop : {name : List ℕ} {n : ℕ} → r ≡ StopsAt n → ChildrenOf s name at left (StopsAt n)
-    children-stop z = record { reads = λ o _ d f. halts (next-child o d f .1) z }
+-- one more child
+module _ {s : List ℕ} {left start at p : ℕ} {c : Bool} {r : Scan} (b : Passed s left start at) (w : White s at p) (h : ChildAt s p c) (e : c ≡ true)
+    (x : ElementAt s (p + 1) left r) where
+  Next : Type 0
+  Next = (o : Open) → o .depth + left ≡ 12
+      → (f : Elements → Elements) × Scanned s start (blank o []) (λ k (t : Element). among o (λ ts. f (t ∷ᵉ ts)) k) r
 
-    pub one-passed : left ≤ 12 → {q : ℕ} → r ≡ To q → Passed s left at q
-    one-passed l {q} z =
-        let (l₁, l₂) = element-bounds l x z in
-        let l₃ = b .rises in
-        let l₄ = w .through .rises in
-        record {
-          rises = omega arith;
-          within = l₂;
-          passes = λ o d f.
-              let (f′, g) = next-child o d f in
-              let j = reached g z in
-              ((λ ts. f′ (j .got ∷ᵉ ts)), j .runs);
-        }
+  next : Next
+  unfolding Next
+  next = ⊎-elim at-first then (b .passes)
+    where
+      at-first : at ≡ start → Next
+      at-first z o d =
+          let (w′, f) = (rw z at w) .through .blanks o [] in
+          let l = b .rises in
+          let l′ = w .through .rises in (
+            (λ ts. ts),
+            first (omega arith) (λ k. f k ∙ blank-child s o k p w′ (h .there e))
+                (via (λ k. (ending o (holding-text (closed o p) w′) k, λ t. among o (λ ts. t ∷ᵉ ts) k)) (x .reads (suc (o .depth)) p (omega arith))),
+          )
+
+      then : Passes s left start at → Next
+      then g o d =
+          let (f, i) = g o d in
+          let l = b .rises in
+          let l′ = w .through .rises in (
+            f,
+            first (omega arith) (λ k. i k ∙ (w .through .stays (among o f k) (among-stays o f k) ∙ among-child s o k p f (h .there e)))
+                (via (λ k. (ending o (holding-elements (closed o p) (f []ᵉ)) k, λ t. among o (λ ts. f (t ∷ᵉ ts)) k)) (x .reads (suc (o .depth)) p (omega arith))),
+          )
+
+  pub content-stops : {name : List ℕ} {n : ℕ} → r ≡ StopsAt n → ContentOf s name start left (StopsAt n)
+  unfolding Next
+  content-stops z = record { reads = λ o _ d. halts (next o d .1) z }
+
+  pub one-passed : left ≤ 12 → {q : ℕ} → r ≡ To q → Passed s left start q
+  unfolding Next
+  one-passed l {q} z =
+      let (l₁, l₂) = element-bounds l x z in
+      let l₃ = b .rises in
+      let l₄ = w .through .rises in
+      record {
+        rises = omega arith;
+        within = l₂;
+        passes = inr (λ o d.
+            let (f, g) = next o d in
+            let j = reached g z in
+            ((λ ts. f (j .got ∷ᵉ ts)), j .runs));
+      }
 
 -- a child: no letter, too deep, and its name
 module _ (s : List ℕ) (depth lt : ℕ) (q : State) (k : Element → State) (at : ℕ) (h : at < length s) where

@@ -6,8 +6,8 @@ use mathlib.Core.Bool.{Bool, true, false}
 use mathlib.Core.Path.{_≡_}
 use lib.ListN.{length, getD, take, drop}
 use Rattle.paper.specs.Bytes.{bytes, white, text-byte, capital, letter-or-digit}
-use Rattle.paper.specs.Form.{Element, Elements}
-use Rattle.paper.specs.Reading.{Open, State, opening, before, after, angle, among, want, blank, text, naming, capitals, in-amount, step, run, Reading, stops-at}
+use Rattle.paper.specs.Form.{Element}
+use Rattle.paper.specs.Reading.{Open, State, opening, before, after, angle, want, blank, text, naming, capitals, in-amount, step, run, Reading, stops-at}
 use Rattle.form.specs.declared.Scan.{Scan}
 use Rattle.form.specs.declared.Scan.the-variants.{To, StopsAt}
 
@@ -104,12 +104,9 @@ pub record ChildAt (s : List ℕ) (at : ℕ) (r : Bool) : Type 0 where
 abbrev pub TextOf : (s name : List ℕ) (at : ℕ) → Scan → Type 0
 TextOf s name at r = (o : Open) (w : List ℕ) → o .name ≡ name → Read s at (text o w) r
 
--- Elements whose depth and what is left of it make 12: what one holds, with its end tag; the same behind a first child; and a child, behind its `<`.
+-- Elements whose depth and what is left of it make 12: what one holds, with its end tag; and a child, behind its `<`.
 pub record ContentOf (s name : List ℕ) (at left : ℕ) (r : Scan) : Type 0 where
   pub reads : (o : Open) → o .name ≡ name → o .depth + left ≡ 12 → Read s at (blank o []) r
-
-pub record ChildrenOf (s name : List ℕ) (at left : ℕ) (r : Scan) : Type 0 where
-  pub reads : (o : Open) → o .name ≡ name → o .depth + left ≡ 12 → (f : Elements → Elements) → Read s at (among o f) r
 
 pub record ElementAt (s : List ℕ) (at left : ℕ) (r : Scan) : Type 0 where
   pub reads : (depth lt : ℕ) → depth + left ≡ 13

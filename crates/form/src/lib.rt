@@ -10,7 +10,7 @@ ghost use Rattle.paper.specs.Form.{end-tag};
 ghost use Rattle.paper.specs.Reading.{naming, opening, before};
 ghost use Rattle.form.specs.Answers.{Says};
 ghost use Rattle.form.specs.Scans.{Word, Opened, White, Name, Text, CapitalAt, Capitals, opens-currency, TextOf, ChildAt};
-ghost use Rattle.form.specs.Scans.{ContentOf, ChildrenOf, ElementAt, Prologue, RootAt};
+ghost use Rattle.form.specs.Scans.{ContentOf, ElementAt, Prologue, RootAt};
 
 pub enum Form {
     OfTheForm,
@@ -268,30 +268,18 @@ fn child_at(s: &[u8], at: usize) -> bool
     s[at + 1] != b'/'
 }
 
-// What an element holds, and its end tag. `left` is how many depths more there may be.
-fn content(s: &[u8], name: &[u8], at: usize, left: usize) -> Scan
-    requires { ⌜ (at ≤ length (now s)) × (left ≤ 12) ⌝ }
-    ensures { λ r. ⌜ ContentOf (now (s .entry)) (now (name .entry)) at left r ⌝ }
-{
-    let p = white_end(s, at);
-    if !child_at(s, p) {
-        return text(s, name, p);
-    }
-    match element(s, p + 1, left) {
-        Scan::StopsAt(n) => Scan::StopsAt(n),
-        Scan::To(q) => children(s, name, q, left),
-    }
-}
-
-// The other children, and the end tag.
-fn children(s: &[u8], name: &[u8], start: usize, left: usize) -> Scan
+// What an element holds, text or elements, and its end tag. `left` is how many depths more there may be.
+fn content(s: &[u8], name: &[u8], start: usize, left: usize) -> Scan
     requires { ⌜ (start ≤ length (now s)) × (left ≤ 12) ⌝ }
-    ensures { λ r. ⌜ ChildrenOf (now (s .entry)) (now (name .entry)) start left r ⌝ }
+    ensures { λ r. ⌜ ContentOf (now (s .entry)) (now (name .entry)) start left r ⌝ }
 {
     let mut at = start;
     loop {
         let p = white_end(s, at);
         if !child_at(s, p) {
+            if at == start {
+                return text(s, name, p);
+            }
             return end_tag(s, name, p);
         }
         match element(s, p + 1, left) {

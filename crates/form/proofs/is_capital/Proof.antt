@@ -1,3 +1,4 @@
+-- `form::is_capital` meets its contract.
 use Rattle.form.proofs.ByteLaws.{below, reaching}
 use Rattle.paper.specs.Bytes.{capital}
 use Rattle.form.proofs.is_capital.Statement.{statement}

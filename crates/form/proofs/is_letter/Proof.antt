@@ -1,3 +1,4 @@
+-- `form::is_letter` meets its contract.
 use Rattle.form.proofs.ByteLaws.{below, reaching, letter-capital, letter-small}
 use mathlib.Core.Path.{sym, _∙_}
 use borrow.Author.Needs.{needs}

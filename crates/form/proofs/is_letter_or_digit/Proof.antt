@@ -1,3 +1,4 @@
+-- `form::is_letter_or_digit` meets its contract.
 use Rattle.form.proofs.ByteLaws.{below, reaching, letter-first, digit-then}
 use mathlib.Core.Path.{sym, _∙_}
 use Rattle.paper.specs.Bytes.{digit}

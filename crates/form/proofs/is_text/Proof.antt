@@ -1,3 +1,4 @@
+-- `form::is_text` meets its contract.
 use Rattle.form.proofs.ByteLaws.{text-high, text-white}
 use mathlib.Core.Path.{_∙_}
 use native.Mathlib.Omega.{arith}

@@ -1,3 +1,4 @@
+-- `form::is_white` meets its contract.
 use Rattle.form.proofs.ByteLaws.{white-last}
 use Rattle.paper.specs.Bytes.{white, one-of, is}
 use Rattle.form.proofs.is_white.Statement.{statement}

@@ -1,4 +1,4 @@
--- The cycle of calls of `form`: what an element holds, its further children, and a child. What falls is what is left of the depth.
+-- The cycle of calls of `form`: what an element holds, and an element. What falls is what is left of the depth.
 use borrow.Author.Needs.{needs}
 use Prim.Native.Nat.{_+_, _*_, _-_}
 use mathlib.Core.Path.{sym, _∙_}
@@ -6,19 +6,16 @@ use native.Mathlib.Omega.{arith}
 use lib.ListN.{length}
 use borrow.Author.Tests.{not-true, not-false}
 use Rattle.form.proofs.Laws.{reached}
-use Rattle.form.proofs.ContentLaws.{Passed, none-passed, one-passed, children-end, children-stop, content-text, content-stops, content-children, element-bounds, no-letter, too-deep, name-short, name-long, tag-stops, element-read}
+use Rattle.form.proofs.ContentLaws.{Passed, none-passed, one-passed, content-text, content-end, content-stops, element-bounds, no-letter, too-deep, name-short, name-long, tag-stops, element-read}
 use Prim.Native.Nat.{ℕ, _<_}
 use borrow.Fn.Kinds.{In}
 use borrow.Fn.PlainCycle.{Measures, is, falls, and}
-use Rattle.form.proofs.children.Reads as children
-use Rattle.form.proofs.children.Kinds as children-kinds
-use Rattle.form.proofs.+children+content+element.Lts-children as children-lts
 use Rattle.form.proofs.content.Reads as content
 use Rattle.form.proofs.content.Kinds as content-kinds
-use Rattle.form.proofs.+children+content+element.Lts-content as content-lts
+use Rattle.form.proofs.+content+element.Lts-content as content-lts
 use Rattle.form.proofs.element.Reads as element
 use Rattle.form.proofs.element.Kinds as element-kinds
-use Rattle.form.proofs.+children+content+element.Lts-element as element-lts
+use Rattle.form.proofs.+content+element.Lts-element as element-lts
 use Rattle.form.proofs.child_at.Reads as child-at-reads
 use Rattle.form.proofs.end_tag.Reads as end-tag-reads
 use Rattle.form.proofs.is_letter.Reads as is-letter-reads
@@ -27,24 +24,14 @@ use Rattle.form.proofs.name_end.Reads as name-end-reads
 use Rattle.form.proofs.tag_end.Reads as tag-end-reads
 use Rattle.form.proofs.text.Reads as text-reads
 use Rattle.form.proofs.white_end.Reads as white-end-reads
-use Rattle.form.proofs.+children+content+element.{statement}
-use Rattle.form.proofs.+children+content+element.Tie.{close}
-
-abbrev μ-children : Measures 2 children-kinds.ps ℕ
-μ-children κs a = 3 * a .1 .1 .1 .0 + 1
+use Rattle.form.proofs.+content+element.{statement}
+use Rattle.form.proofs.+content+element.Tie.{close}
 
 abbrev μ-content : Measures 2 content-kinds.ps ℕ
-μ-content κs a = 3 * a .1 .1 .1 .0 + 2
+μ-content κs a = 2 * a .1 .1 .1 .0 + 1
 
 abbrev μ-element : Measures 1 element-kinds.ps ℕ
-μ-element κs a = 3 * a .1 .1 .0
-
-abbrev children-at : ℕ → In 2 children-kinds.ps
-children-at t = and 2 children-kinds.ps (is 2 children-kinds.ps μ-children t) children.Pre
-
-abbrev children-below : ℕ → In 2 children-kinds.ps
-children-below t =
-    and 2 children-kinds.ps (falls 2 children-kinds.ps _<_ μ-children t) children.Pre
+μ-element κs a = 2 * a .1 .1 .0
 
 abbrev content-at : ℕ → In 2 content-kinds.ps
 content-at t = and 2 content-kinds.ps (is 2 content-kinds.ps μ-content t) content.Pre
@@ -58,89 +45,59 @@ element-at t = and 1 element-kinds.ps (is 1 element-kinds.ps μ-element t) eleme
 abbrev element-below : ℕ → In 1 element-kinds.ps
 element-below t = and 1 element-kinds.ps (falls 1 element-kinds.ps _<_ μ-element t) element.Pre
 
-abbrev children-claims : ℕ → children-lts.Claims
-children-claims t = (white-end-reads.Asked, white-end-reads.Learnt, child-at-reads.Asked, child-at-reads.Learnt, end-tag-reads.Asked, end-tag-reads.Learnt, element-below t, element.Post)
-
 abbrev content-claims : ℕ → content-lts.Claims
-content-claims t = (white-end-reads.Asked, white-end-reads.Learnt, child-at-reads.Asked, child-at-reads.Learnt, text-reads.Asked, text-reads.Learnt, element-below t, element.Post, children-below t, children.Post)
+content-claims t = (white-end-reads.Asked, white-end-reads.Learnt, child-at-reads.Asked, child-at-reads.Learnt, text-reads.Asked, text-reads.Learnt, end-tag-reads.Asked, end-tag-reads.Learnt, element-below t, element.Post)
 
 abbrev element-claims : ℕ → element-lts.Claims
 element-claims t = (is-letter-reads.Asked, is-letter-reads.Learnt, name-end-reads.Asked, name-end-reads.Learnt, is-letter-or-digit-reads.Asked, is-letter-or-digit-reads.Learnt, tag-end-reads.Asked, tag-end-reads.Learnt, content-below t, content.Post)
 
-abbrev children-Inv-loop : children-lts.InvT-loop
-children-Inv-loop s name start left at₀ at = Passed s left start at
+abbrev content-Inv-loop : content-lts.InvT-loop
+content-Inv-loop s name start left at₀ at = Passed s left start at
 
-abbrev children-μ-loop : children-lts.MeasureT-loop
-children-μ-loop s name start left at₀ at = length s - at
+abbrev content-μ-loop : content-lts.MeasureT-loop
+content-μ-loop s name start left at₀ at = length s - at
 
-children-loop-holds : (t : ℕ) → children-lts.Need-loop-holds (children-claims t) (children-at t) children.Post children-Inv-loop children-μ-loop
-children-loop-holds t c = none-passed _ _ _ (search needs)
+content-loop-holds : (t : ℕ) → content-lts.Need-loop-holds (content-claims t) (content-at t) content.Post content-Inv-loop content-μ-loop
+content-loop-holds t c = none-passed _ _ _ (search needs)
 
-children-white-end-requires : (t : ℕ) → children-lts.Need-white-end-requires (children-claims t) (children-at t) children.Post children-Inv-loop children-μ-loop
-children-white-end-requires t c κs = search needs
-
-children-child-at-requires : (t : ℕ) → children-lts.Need-child-at-requires (children-claims t) (children-at t) children.Post children-Inv-loop children-μ-loop
-children-child-at-requires t c κs = search needs
-
-children-end-tag-requires : (t : ℕ) → children-lts.Need-end-tag-requires (children-claims t) (children-at t) children.Post children-Inv-loop children-μ-loop
-children-end-tag-requires t c κs = search needs
-
-children-returns : (t : ℕ) → children-lts.Need-returns (children-claims t) (children-at t) children.Post children-Inv-loop children-μ-loop
-children-returns t c = children-end (c .before .before .before .before .loop .inv) (c .before .before .before .white-end .ensures) (c .before .before .child-at .ensures) (not-true _ (c .before .if1 .taken)) (c .end-tag .ensures)
-
-children-add-element : (t : ℕ) → children-lts.Need-add-element (children-claims t) (children-at t) children.Post children-Inv-loop children-μ-loop
-children-add-element t c = omega (arith, c .before .child-at .ensures .there (not-false _ (c .if1 .left)))
-
-children-element-requires : (t : ℕ) → children-lts.Need-element-requires (children-claims t) (children-at t) children.Post children-Inv-loop children-μ-loop
-children-element-requires t c κs = let k = c .before .child-at .ensures .there (not-false _ (c .if1 .left)) in (search needs, (search needs, search needs, k .no-slash))
-
-children-enum-known-n : (t : ℕ) → children-lts.Need-enum-known-n (children-claims t) (children-at t) children.Post children-Inv-loop children-μ-loop
-children-enum-known-n t c = search needs
-
-children-returns-2 : (t : ℕ) → children-lts.Need-returns-2 (children-claims t) (children-at t) children.Post children-Inv-loop children-μ-loop
-children-returns-2 t c = children-stop (c .before .before .before .before .before .before .before .loop .inv) (c .before .before .before .before .before .before .white-end .ensures) (c .before .before .before .before .before .child-at .ensures) (not-false _ (c .before .before .before .before .if1 .left)) (c .before .before .before .element .ensures) (c .before .n .given .1)
-
-children-enum-known-q : (t : ℕ) → children-lts.Need-enum-known-q (children-claims t) (children-at t) children.Post children-Inv-loop children-μ-loop
-children-enum-known-q t c = search needs
-
-children-loop-less : (t : ℕ) → children-lts.Need-loop-less (children-claims t) (children-at t) children.Post children-Inv-loop children-μ-loop
-children-loop-less t c = omega (arith, element-bounds (c .before .before .before .before .before .before .before .before .before .before .pre .1 .1) (c .before .before .before .element .ensures) (c .before .q .given .1), c .before .before .before .before .before .before .white-end .ensures .through)
-
-children-loop-again : (t : ℕ) → children-lts.Need-loop-again (children-claims t) (children-at t) children.Post children-Inv-loop children-μ-loop
-children-loop-again t c = one-passed (c .before .before .before .before .before .before .before .loop .inv) (c .before .before .before .before .before .before .white-end .ensures) (c .before .before .before .before .before .child-at .ensures) (not-false _ (c .before .before .before .before .if1 .left)) (c .before .before .before .element .ensures) (c .before .before .before .before .before .before .before .before .before .before .pre .1 .1) (c .before .q .given .1)
-
-content-white-end-requires : (t : ℕ) → content-lts.Need-white-end-requires (content-claims t) (content-at t) content.Post
+content-white-end-requires : (t : ℕ) → content-lts.Need-white-end-requires (content-claims t) (content-at t) content.Post content-Inv-loop content-μ-loop
 content-white-end-requires t c κs = search needs
 
-content-child-at-requires : (t : ℕ) → content-lts.Need-child-at-requires (content-claims t) (content-at t) content.Post
+content-child-at-requires : (t : ℕ) → content-lts.Need-child-at-requires (content-claims t) (content-at t) content.Post content-Inv-loop content-μ-loop
 content-child-at-requires t c κs = search needs
 
-content-text-requires : (t : ℕ) → content-lts.Need-text-requires (content-claims t) (content-at t) content.Post
+content-text-requires : (t : ℕ) → content-lts.Need-text-requires (content-claims t) (content-at t) content.Post content-Inv-loop content-μ-loop
 content-text-requires t c κs = search needs
 
-content-returns : (t : ℕ) → content-lts.Need-returns (content-claims t) (content-at t) content.Post
-content-returns t c = content-text (c .before .before .before .white-end .ensures) (c .before .before .child-at .ensures) (not-true _ (c .before .if1 .taken)) (c .text .ensures)
+content-returns : (t : ℕ) → content-lts.Need-returns (content-claims t) (content-at t) content.Post content-Inv-loop content-μ-loop
+content-returns t c = content-text (rw (c .before .if2 .taken) at (c .before .before .before .before .white-end .ensures)) (c .before .before .before .child-at .ensures) (not-true _ (c .before .before .if1 .taken)) (c .text .ensures)
 
-content-add-element : (t : ℕ) → content-lts.Need-add-element (content-claims t) (content-at t) content.Post
+content-end-tag-requires : (t : ℕ) → content-lts.Need-end-tag-requires (content-claims t) (content-at t) content.Post content-Inv-loop content-μ-loop
+content-end-tag-requires t c κs = search needs
+
+content-returns-2 : (t : ℕ) → content-lts.Need-returns-2 (content-claims t) (content-at t) content.Post content-Inv-loop content-μ-loop
+content-returns-2 t c = content-end (c .before .before .before .before .before .loop .inv) (c .before .before .before .before .white-end .ensures) (c .before .before .before .child-at .ensures) (not-true _ (c .before .before .if1 .taken)) (c .before .if2 .left) (c .end-tag .ensures)
+
+content-add-element : (t : ℕ) → content-lts.Need-add-element (content-claims t) (content-at t) content.Post content-Inv-loop content-μ-loop
 content-add-element t c = omega (arith, c .before .child-at .ensures .there (not-false _ (c .if1 .left)))
 
-content-element-requires : (t : ℕ) → content-lts.Need-element-requires (content-claims t) (content-at t) content.Post
+content-element-requires : (t : ℕ) → content-lts.Need-element-requires (content-claims t) (content-at t) content.Post content-Inv-loop content-μ-loop
 content-element-requires t c κs = let k = c .before .child-at .ensures .there (not-false _ (c .if1 .left)) in (search needs, (search needs, search needs, k .no-slash))
 
-content-enum-known-n : (t : ℕ) → content-lts.Need-enum-known-n (content-claims t) (content-at t) content.Post
+content-enum-known-n : (t : ℕ) → content-lts.Need-enum-known-n (content-claims t) (content-at t) content.Post content-Inv-loop content-μ-loop
 content-enum-known-n t c = search needs
 
-content-enum-known-q : (t : ℕ) → content-lts.Need-enum-known-q (content-claims t) (content-at t) content.Post
+content-returns-3 : (t : ℕ) → content-lts.Need-returns-3 (content-claims t) (content-at t) content.Post content-Inv-loop content-μ-loop
+content-returns-3 t c = content-stops (c .before .before .before .before .before .before .before .loop .inv) (c .before .before .before .before .before .before .white-end .ensures) (c .before .before .before .before .before .child-at .ensures) (not-false _ (c .before .before .before .before .if1 .left)) (c .before .before .before .element .ensures) (c .before .n .given .1)
+
+content-enum-known-q : (t : ℕ) → content-lts.Need-enum-known-q (content-claims t) (content-at t) content.Post content-Inv-loop content-μ-loop
 content-enum-known-q t c = search needs
 
-content-children-requires : (t : ℕ) → content-lts.Need-children-requires (content-claims t) (content-at t) content.Post
-content-children-requires t c κs = (search needs, (element-bounds (c .before .before .before .before .before .before .before .before .before .pre .1 .1) (c .before .before .before .element .ensures) (c .before .q .given .1) .1, search needs))
+content-loop-less : (t : ℕ) → content-lts.Need-loop-less (content-claims t) (content-at t) content.Post content-Inv-loop content-μ-loop
+content-loop-less t c = omega (arith, element-bounds (c .before .before .before .before .before .before .before .before .before .before .pre .1 .1) (c .before .before .before .element .ensures) (c .before .q .given .1), c .before .before .before .before .before .before .white-end .ensures .through)
 
-content-returns-2 : (t : ℕ) → content-lts.Need-returns-2 (content-claims t) (content-at t) content.Post
-content-returns-2 t c = content-stops (c .before .before .before .before .before .before .white-end .ensures) (c .before .before .before .before .before .child-at .ensures) (not-false _ (c .before .before .before .before .if1 .left)) (c .before .before .before .element .ensures) (c .before .n .given .1)
-
-content-returns-3 : (t : ℕ) → content-lts.Need-returns-3 (content-claims t) (content-at t) content.Post
-content-returns-3 t c = content-children (c .before .before .before .before .before .before .before .white-end .ensures) (c .before .before .before .before .before .before .child-at .ensures) (not-false _ (c .before .before .before .before .before .if1 .left)) (c .before .before .before .before .element .ensures) (c .before .before .q .given .1) (c .children .ensures)
+content-loop-again : (t : ℕ) → content-lts.Need-loop-again (content-claims t) (content-at t) content.Post content-Inv-loop content-μ-loop
+content-loop-again t c = one-passed (c .before .before .before .before .before .before .before .loop .inv) (c .before .before .before .before .before .before .white-end .ensures) (c .before .before .before .before .before .child-at .ensures) (not-false _ (c .before .before .before .before .if1 .left)) (c .before .before .before .element .ensures) (c .before .before .before .before .before .before .before .before .before .before .pre .1 .1) (c .before .q .given .1)
 
 element-shared-slice-read-is-letter : (t : ℕ) → element-lts.Need-shared-slice-read-is-letter (element-claims t) (element-at t) element.Post
 element-shared-slice-read-is-letter t c = search needs
@@ -209,38 +166,26 @@ element-returns-5 t c = tag-stops (c .before .before .before .before .before .be
 element-returns-6 : (t : ℕ) → element-lts.Need-returns-6 (element-claims t) (element-at t) element.Post
 element-returns-6 t c = element-read (c .before .before .before .before .before .before .before .before .before .before .before .before .before .before .before .before .before .pre .1 .0) (sym (c .before .before .before .before .before .before .before .before .before .before .before .before .before .before .is-letter .ensures) ∙ not-false _ (c .before .before .before .before .before .before .before .before .before .before .before .before .before .if1 .left)) (c .before .before .before .before .before .before .before .before .before .before .before .name-end .ensures) (c .before .before .before .before .before .before .before .before .before .before .before .before .if2 .left) (c .before .before .before .before .before .tag-end .ensures) (c .before .before .before .p .given .1) (omega arith) (c .content .ensures)
 
-pub +children+content+element-spec : {M : Type 1} → statement M
-+children+content+element-spec = close μ-children μ-content μ-element (λ t. children-lts.spec (children-claims t)
-    (children-at t)
-    children.Post
-    children-Inv-loop
-    children-μ-loop
-    (children-loop-holds t)
-    (children-white-end-requires t)
-    (children-child-at-requires t)
-    (children-end-tag-requires t)
-    (children-returns t)
-    (children-add-element t)
-    (children-element-requires t)
-    (children-enum-known-n t)
-    (children-returns-2 t)
-    (children-enum-known-q t)
-    (children-loop-less t)
-    (children-loop-again t))
-    (λ t. content-lts.spec (content-claims t)
+pub +content+element-spec : {M : Type 1} → statement M
++content+element-spec = close μ-content μ-element (λ t. content-lts.spec (content-claims t)
     (content-at t)
     content.Post
+    content-Inv-loop
+    content-μ-loop
+    (content-loop-holds t)
     (content-white-end-requires t)
     (content-child-at-requires t)
     (content-text-requires t)
     (content-returns t)
+    (content-end-tag-requires t)
+    (content-returns-2 t)
     (content-add-element t)
     (content-element-requires t)
     (content-enum-known-n t)
+    (content-returns-3 t)
     (content-enum-known-q t)
-    (content-children-requires t)
-    (content-returns-2 t)
-    (content-returns-3 t))
+    (content-loop-less t)
+    (content-loop-again t))
     λ t. element-lts.spec (element-claims t)
     (element-at t)
     element.Post
