@@ -12,6 +12,7 @@ ghost use Rattle.form.specs.Answers.{Says};
 ghost use Rattle.form.specs.Scans.{Word, Opened, White, Name, Text, CapitalAt, Capitals, opens-currency, TextOf, ChildAt};
 ghost use Rattle.form.specs.Scans.{ContentOf, ElementAt, Prologue, RootAt};
 
+// The answer: of the form, or refused at an offset. `Says` tells what each says of the message.
 pub enum Form {
     OfTheForm,
     RefusedAt(usize),
@@ -119,6 +120,7 @@ fn name_end(s: &[u8], at: usize) -> usize
     i
 }
 
+// Whether two texts are equal, byte for byte.
 fn equal(a: &[u8], b: &[u8]) -> bool
     ensures { λ r. ⌜ r ≡ same (now (a .entry)) (now (b .entry)) ⌝ }
 {
@@ -169,6 +171,7 @@ fn end_tag(s: &[u8], name: &[u8], at: usize) -> Scan
     }
 }
 
+// Whether a capital stands at an offset.
 fn capital_at(s: &[u8], at: usize) -> bool
     ensures { λ r. ⌜ CapitalAt (now (s .entry)) at r ⌝ }
 {
@@ -178,6 +181,7 @@ fn capital_at(s: &[u8], at: usize) -> bool
     is_capital(s[at])
 }
 
+// The letters of a currency.
 fn three_capitals(s: &[u8], at: usize) -> Scan
     requires { ⌜ at ≤ length (now s) ⌝ }
     ensures { λ r. ⌜ Capitals (now (s .entry)) at r ⌝ }
@@ -229,6 +233,7 @@ fn tag_end(s: &[u8], name: &[u8], at: usize) -> Scan
     currency(s, at + 1)
 }
 
+// Text ends at the first other byte.
 fn text_end(s: &[u8], at: usize) -> usize
     requires { ⌜ at ≤ length (now s) ⌝ }
     ensures { λ r. ⌜ Text (now (s .entry)) at r ⌝ }
@@ -333,6 +338,7 @@ fn prologue(s: &[u8]) -> Scan
     word(s, 0, b"<?xml version=\"1.0\" encoding=\"UTF-8\"?>")
 }
 
+// The root, where no white space stands before it.
 fn root_at(s: &[u8], at: usize) -> Scan
     requires { ⌜ (at ≤ length (now s)) × (at < length (now s) → white (getD (now s) at 0) ≡ false) ⌝ }
     ensures { λ r. ⌜ RootAt (now (s .entry)) at before r ⌝ }
@@ -347,6 +353,7 @@ fn root_at(s: &[u8], at: usize) -> Scan
     }
 }
 
+// The message up to the end of its root.
 fn root(s: &[u8]) -> Scan
     ensures { λ r. ⌜ RootAt (now (s .entry)) 0 opening r ⌝ }
 {
