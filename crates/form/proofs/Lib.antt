@@ -4,6 +4,7 @@ pub mod Leads
 pub mod Complete
 pub mod Sound
 pub mod Decides
+pub mod AllBytes
 pub mod Answers
 -- laws by which the functions of the code are proved
 mod ByteLaws

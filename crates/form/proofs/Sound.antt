@@ -312,12 +312,12 @@ naming-back depth from name (suc room) k at b s t m d l z i r =
     (rw add-one (m d l z′ (name-more b i h (omega arith)) r′)))
     (λ _ m. named-back depth from name k at b s t d l z i m)
 
-either : {A : Type 0} (a b : Bool) → (a || b) ≡ true → (a ≡ true → A) → (b ≡ true → A) → A
+pub either : {A : Type 0} (a b : Bool) → (a || b) ≡ true → (a ≡ true → A) → (b ≡ true → A) → A
 either true b h f g = f refl
 either false b h f g = g h
 
 -- white space is text
-white-text : (b : ℕ) → white b ≡ true → text-byte b ≡ true
+pub white-text : (b : ℕ) → white b ≡ true → text-byte b ≡ true
 unfolding white text-byte one-of is
 white-text b h =
     one-of-four (λ e. rw (eqb-true b 32 e)) (λ e. rw (eqb-true b 9 e)) (λ e. rw (eqb-true b 10 e)) (λ e. rw (eqb-true b 13 e))
