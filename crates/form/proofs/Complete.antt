@@ -1,20 +1,20 @@
 -- The reading finds each message of the form: a text of the grammar leads from the opening to the end, and to its own root.
 use Prim.Native.Nat.{ℕ, zero, suc, _+_, _≤_, _<_}
-use Prim.Native.Char.{code}
 use mathlib.Core.List.{List, [], _∷_, _++_, append-assoc, append-nil}
-use mathlib.Core.Option.{Option, none, some}
+use mathlib.Core.Option.{some}
 use mathlib.Core.Bool.{Bool, true, false, _&&_, false≢true}
 use mathlib.Core.Path.{_≡_, refl, sym, ap, _∙_}
 use mathlib.Core.Logic.{_≢_}
-use native.Mathlib.Nat.{add-suc, add-zero, suc-add, add-assoc}
+use native.Mathlib.Nat.{add-suc, add-zero, suc-add}
 use native.Mathlib.Omega.{arith}
 use lib.ListN.{length, drop, length-append}
-use lib.Dec.{leb, eqb}
-use borrow.Author.Tests.{eq-eqb, ne-eqb, eqb-true, le-leb}
-use Rattle.paper.specs.Bytes.{if_then_else_, bytes, is, from-to, one-of, white, text-byte, capital, digit, letter, letter-or-digit, same, Every, none as all-done, more}
-use Rattle.paper.specs.Form.{Element, Elements, Head, holding-text, holding-elements, []ᵉ, _∷ᵉ_, IsName, letter-and, root-tag, start-tag, amount-tag, end-tag, IsStartTag, root, amount, plain, head, IsElement, of-text, of-elements, AreElements, no-more, one-more, declaration, IsDeclaration, absent, present, IsMessage, message}
-use Rattle.paper.specs.Reading.{Open, closed, State, fixed, opening, opened, before, angle, naming, capitals, blank, text, among, after, want, ending, in-root, in-amount, named, step, ended, run, read, root-is, stops-at}
-use Rattle.form.proofs.Leads.{Leads, here, next, on, at-offset, follow, run-over, want-leads, fixed-leads, Stays, white-leads}
+use lib.Dec.{eqb}
+use borrow.Author.Tests.{ne-eqb, eqb-true, le-leb}
+use Rattle.paper.specs.Bytes.{bytes, is, from-to, one-of, white, text-byte, capital, digit, letter, letter-or-digit, same, Every, none as all-done, more}
+use Rattle.paper.specs.Form.{Element, Elements, holding-text, holding-elements, []ᵉ, _∷ᵉ_, letter-and, root-tag, start-tag, amount-tag, end-tag, IsStartTag, root, amount, plain, head, IsElement, of-text, of-elements, no-more, one-more, declaration, IsDeclaration, absent, present, IsMessage, message}
+use Rattle.paper.specs.Reading.{Open, closed, State, opening, before, angle, naming, capitals, blank, text, among, after, want, ending, in-root, in-amount, named, step, ended, run, read, root-is}
+use Rattle.form.specs.Scans.{Stays}
+use Rattle.form.proofs.Leads.{Leads, here, next, on, at-offset, follow, run-over, want-leads, white-leads}
 
 -- the open element of a start tag
 abbrev pub opened-by : (depth at : ℕ) (tag name currency : List ℕ) → Open

@@ -1,19 +1,19 @@
 -- The reading decides the form: it gives a root exactly for the texts of the grammar, and stops exactly at the offset of refusal 2.
 use Prim.Native.Nat.{ℕ, zero, suc, _+_, _≤_, _<_}
-use mathlib.Core.List.{List, [], _∷_, _++_, append-assoc, append-nil}
+use mathlib.Core.List.{List, [], _∷_, _++_, append-assoc}
 use mathlib.Core.Option.{Option, none, some}
 use mathlib.Core.Bool.{Bool, true, false}
 use mathlib.Core.Path.{_≡_, refl, sym, ap, _∙_}
-use mathlib.Core.Logic.{_≢_, _⊎_, inl, inr, ⊎-elim}
-use native.Mathlib.Nat.{add-suc, add-zero, zero-add, suc-add}
+use mathlib.Core.Logic.{_⊎_, inl, inr}
+use native.Mathlib.Nat.{add-zero, zero-add}
 use native.Mathlib.Omega.{arith}
 use native.Mathlib.Decide.{decLe}
 use lib.Seq.{take-take}
 use lib.ListN.{length, take, drop, take-append-drop}
-use Rattle.paper.specs.Bytes.{if_then_else_, bytes, is, from-to, one-of, white, text-byte, capital, digit, letter, letter-or-digit, same}
-use Rattle.paper.specs.Form.{Element, Elements, holding-text, holding-elements, []ᵉ, root-tag, amount-tag, IsMessage, OfTheForm, Begins, FirstImpossible}
+use Rattle.paper.specs.Bytes.{bytes, is, from-to, one-of, white, text-byte, capital, digit, letter, letter-or-digit, same}
+use Rattle.paper.specs.Form.{Element, Elements, holding-text, holding-elements, []ᵉ, root-tag, OfTheForm, Begins, FirstImpossible}
 use Rattle.paper.specs.Reading.{Open, closed, State, fixed, opening, opened, before, angle, naming, capitals, blank, text, among, after, want, ending, in-root, in-amount, named, step, ended, run, read, Reading, root-is, stops-at}
-use Rattle.form.proofs.Leads.{Leads, here, next, on, at-offset, follow, run-over, run-next, run-stuck, want-leads, fixed-leads}
+use Rattle.form.proofs.Leads.{Leads, here, next, run-over, run-next, run-stuck, want-leads}
 use Rattle.form.proofs.Complete.{complete, close-name}
 use Rattle.form.proofs.Sound.{sound, stopped, later}
 
@@ -45,7 +45,7 @@ by-angle : (depth from : ℕ) (q : State) (k : Element → State) → Viable q �
 unfolding step letter capital from-to is
 by-angle depth from q k v = by-byte _ 47 (λ _. q) (λ _. refl) (λ _. v)
 
-open-amount : (depth from : ℕ) (name : List ℕ) (room : ℕ) (k : Element → State) (at : ℕ) → same name (bytes "InstdAmt") ≡ true
+pub open-amount : (depth from : ℕ) (name : List ℕ) (room : ℕ) (k : Element → State) (at : ℕ) → same name (bytes "InstdAmt") ≡ true
     → step (naming depth from name room k) at 32 ≡ some (want (bytes "Ccy=\"") (capitals 2 [] (in-amount depth from k)))
 unfolding step named letter-or-digit letter digit capital from-to is
 open-amount depth from name zero k at e = rw e

@@ -1,14 +1,13 @@
 -- How the machine of `paper` goes from a state to a state over some bytes, and what that says of its run.
 use Prim.Native.Nat.{ℕ, suc, _+_}
-use mathlib.Core.List.{List, [], _∷_, _++_, append-assoc}
-use mathlib.Core.Option.{Option, none, some}
-use mathlib.Core.Bool.{Bool, true, false}
+use mathlib.Core.List.{List, [], _∷_, _++_}
+use mathlib.Core.Option.{none, some}
 use mathlib.Core.Path.{_≡_, refl, sym, _∙_}
 use native.Mathlib.Nat.{add-suc, add-zero, suc-add}
 use lib.ListN.{length}
 use borrow.Author.Tests.{eq-eqb}
-use Rattle.paper.specs.Bytes.{if_then_else_, white, Every, none as all-done, more}
-use Rattle.paper.specs.Form.{Element}
+use Rattle.paper.specs.Bytes.{white, Every, none as all-done, more}
+use Rattle.form.specs.Scans.{Stays}
 use Rattle.paper.specs.Reading.{State, fixed, want, step, run, stops-at}
 
 -- from `q` at offset `at` the bytes lead to the last state
@@ -49,10 +48,7 @@ unfolding want
 want-leads [] q at = here
 want-leads (b ∷ bs) q at = fixed-leads b bs q at
 
--- a state that white space leaves as it is
-unfoldable pub Stays : State → Type 0
-Stays q = (at b : ℕ) → white b ≡ true → step q at b ≡ some q
-
+-- white space leads back to a state that it leaves as it is
 pub white-leads : (q : State) → Stays q → {s : List ℕ} (at : ℕ) → Every white s → Leads q at s q
 unfolding Stays
 white-leads q h at all-done = here

@@ -2,17 +2,17 @@
 use Prim.Native.Nat.{ℕ, zero, suc, _+_, _≤_, _<_}
 use mathlib.Core.List.{List, [], _∷_, _++_, append-assoc, append-nil}
 use mathlib.Core.Option.{Option, none, some}
-use mathlib.Core.Bool.{Bool, true, false, _&&_, _||_, not, false≢true}
-use mathlib.Core.Path.{_≡_, refl, sym, ap, subst, _∙_}
+use mathlib.Core.Bool.{Bool, true, false, _||_, false≢true}
+use mathlib.Core.Path.{_≡_, refl, sym, ap, _∙_}
 use mathlib.Core.Logic.{_≢_, _⊎_, inl, inr, ⊎-elim}
-use native.Mathlib.Nat.{add-suc, add-zero, suc-add, add-assoc}
+use native.Mathlib.Nat.{add-suc, add-zero, suc-add}
 use native.Mathlib.Numerals.{add-one}
 use native.Mathlib.Omega.{arith}
 use lib.ListN.{length, drop, length-append}
 use lib.Dec.{leb, eqb}
-use borrow.Author.Tests.{eq-eqb, eqb-true, leb-true}
-use Rattle.paper.specs.Bytes.{if_then_else_, bytes, is, from-to, one-of, white, text-byte, capital, digit, letter, letter-or-digit, same, Every, none as all-done, more}
-use Rattle.paper.specs.Form.{Element, Elements, Head, holding-text, holding-elements, []ᵉ, _∷ᵉ_, IsName, letter-and, root-tag, start-tag, amount-tag, end-tag, IsStartTag, root, amount, plain, head, IsElement, of-text, of-elements, AreElements, no-more, one-more, declaration, IsDeclaration, absent, present, IsMessage, message}
+use borrow.Author.Tests.{eqb-true, leb-true}
+use Rattle.paper.specs.Bytes.{if_then_else_, bytes, is, one-of, white, text-byte, capital, letter, letter-or-digit, same, Every, none as all-done, more}
+use Rattle.paper.specs.Form.{Element, Elements, holding-text, holding-elements, []ᵉ, _∷ᵉ_, IsName, letter-and, root-tag, start-tag, amount-tag, end-tag, IsStartTag, root, amount, plain, head, IsElement, of-text, of-elements, AreElements, no-more, one-more, declaration, IsDeclaration, absent, present, IsMessage, message}
 use Rattle.form.proofs.Complete.{opened-by, same-true, deep-enough}
 use Rattle.paper.specs.Reading.{Open, closed, State, fixed, opening, opened, before, angle, naming, capitals, blank, text, among, after, want, ending, in-root, in-amount, named, step, ended, run, read, Reading, root-is, stops-at}
 
@@ -312,12 +312,12 @@ naming-back depth from name (suc room) k at b s t m d l z i r =
     (rw add-one (m d l z′ (name-more b i h (omega arith)) r′)))
     (λ _ m. named-back depth from name k at b s t d l z i m)
 
-either : {A : Type 0} (a b : Bool) → (a || b) ≡ true → (a ≡ true → A) → (b ≡ true → A) → A
+pub either : {A : Type 0} (a b : Bool) → (a || b) ≡ true → (a ≡ true → A) → (b ≡ true → A) → A
 either true b h f g = f refl
 either false b h f g = g h
 
 -- white space is text
-white-text : (b : ℕ) → white b ≡ true → text-byte b ≡ true
+pub white-text : (b : ℕ) → white b ≡ true → text-byte b ≡ true
 unfolding white text-byte one-of is
 white-text b h =
     one-of-four (λ e. rw (eqb-true b 32 e)) (λ e. rw (eqb-true b 9 e)) (λ e. rw (eqb-true b 10 e)) (λ e. rw (eqb-true b 13 e))
