@@ -1,5 +1,5 @@
 -- Two answers on a leaf that meet the contract are the same.
-use Prim.Native.Nat.{ℕ, _+_}
+use Prim.Native.Nat.{ℕ}
 use mathlib.Core.Path.{_≡_, refl, ap, sym, _∙_}
 use mathlib.Core.List.{List, []}
 use mathlib.Core.Option.{Option, none, some}
@@ -51,5 +51,6 @@ one-judgement parent row longest currency w a b ja jb =
   where
     r : Row
     r = record { row = row; under = 0; name = []; holds = text longest }
+
     h : Head
     h = record { name = []; currency = currency; at = 0; start = 0; close = 0 }
