@@ -9,7 +9,7 @@ use lib.ListN.{length, getD, take, drop}
 use lib.Seq.{take-all}
 use lib.Dec.{eqb}
 use Rattle.paper.specs.Bytes.{if_then_else_, digit, same}
-use Rattle.paper.specs.Values.{read-after, moved, Country, of-a-country}
+use Rattle.paper.specs.Values.{read-after, moved, Country, of-a-country, number-after, number}
 use Rattle.paper.specs.Refusals.{among-texts}
 use Rattle.accounts.specs.Remainders.{read-one, remainder-after, letters-of}
 use Rattle.texts.proofs.Laws.{rest-is, same-swap}
@@ -65,11 +65,36 @@ moved-remainder w =
     (ap (λ (x : ℕ). x % 97) (remainder-is 0 0 (drop 4 w) (omega arith) refl) ∙ mod-mod (read-after 0 (drop 4 w)) 97) ∙
     ap (λ (x : ℕ). x % 97) (sym (read-append 0 (drop 4 w) (take 4 w)))
 
+-- the digits that the characters of an account are read as, two for a letter
+pub spelled-out : List ℕ → List ℕ
+spelled-out [] = []
+spelled-out (b ∷ s) =
+    (if digit b then b ∷ [] else (48 + (b - 65 + 10) / 10) ∷ (48 + (b - 65 + 10) % 10) ∷ []) ++ spelled-out s
+
+-- An account read character by character is the decimal number that those digits spell.
+pub read-is-number : (n : ℕ) (s : List ℕ) → read-after n s ≡ number-after n (spelled-out s)
+unfolding read-after number-after spelled-out
+read-is-number n [] = refl
+read-is-number n (b ∷ s) = by (digit b) (λ k. read-is-number k s)
+  where
+    by :
+        (c : Bool) → ((k : ℕ) → read-after k s ≡ number-after k (spelled-out s)) →
+        read-after (if c then n * 10 + (b - 48) else n * 100 + (b - 65 + 10)) s ≡
+        number-after n ((if c then b ∷ [] else (48 + (b - 65 + 10) / 10) ∷ (48 + (b - 65 + 10) % 10) ∷ []) ++ spelled-out s)
+    by true rest = rest (n * 10 + (b - 48))
+    by false rest = rest (n * 100 + (b - 65 + 10)) ∙ ap (λ (k : ℕ). number-after k (spelled-out s)) (omega arith)
+
 -- the same as code takes it, the rest of the text from its fifth character to its end
 pub moved-told :
     (w : List ℕ) (r q : ℕ) → r ≡ remainder-after 0 (take (length w - 4) (drop 4 w)) → q ≡ remainder-after r (take 4 w) →
     read-after 0 (moved w) % 97 ≡ q
 moved-told w r q e f = sym (f ∙ rw (e, rest-is w 4) (moved-remainder w))
+
+-- So the remainders leave 1 exactly where the moved text, spelled out as one decimal number, leaves 1 when divided by 97.
+pub rule-of-97 :
+    (w : List ℕ) → remainder-after (remainder-after 0 (drop 4 w)) (take 4 w) ≡ number (spelled-out (moved w)) % 97
+unfolding number
+rule-of-97 w = moved-remainder w ∙ ap (λ (x : ℕ). x % 97) (read-is-number 0 (moved w))
 
 -- one character and the rest
 pub remainder-goes :

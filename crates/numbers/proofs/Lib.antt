@@ -2,3 +2,4 @@
 pub mod Laws
 pub mod Days
 pub mod InCents
+pub mod Agreement
