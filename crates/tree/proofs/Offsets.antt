@@ -6,13 +6,13 @@ use mathlib.Core.Path.{_≡_, refl, sym, ap, subst, _∙_}
 use mathlib.Core.Logic.{_⊎_, inl, inr}
 use native.Mathlib.Omega.{arith}
 use native.Mathlib.Numerals.{add-one}
-use native.Mathlib.Nat.{add-zero, zero-add}
+use native.Mathlib.Nat.{zero-add}
 use lib.Dec.{eqb}
 use lib.ListN.{length, getD, take, drop, length-append, length-drop, List·getD-append}
 use lib.Seq.{drop-drop, drop-append-seam, take-append-seam, getD-drop, getD-append-seam}
 use borrow.Author.Tests.{eq-eqb, eqb-true}
 use Rattle.paper.specs.Bytes.{bytes, is, from-to, one-of, white, text-byte, capital, letter, digit, letter-or-digit, Every, none, more, every}
-use Rattle.paper.specs.Form.{Head, Element, Elements, holding-text, holding-elements, []ᵉ, _∷ᵉ_, IsName, letter-and, root-tag, start-tag, amount-tag, end-tag, IsStartTag, root, amount, plain, head, IsElement, of-text, of-elements, AreElements, no-more, one-more, declaration, IsDeclaration, absent, present, IsMessage, message}
+use Rattle.paper.specs.Form.{Element, Elements, holding-text, holding-elements, []ᵉ, _∷ᵉ_, IsName, letter-and, root-tag, start-tag, amount-tag, end-tag, IsStartTag, root, amount, plain, head, IsElement, of-text, of-elements, no-more, one-more, declaration, IsDeclaration, absent, present, IsMessage, message}
 use Rattle.paper.specs.Rows.{head-of}
 use Rattle.paper.proofs.Laws.{false-not-true, every-says}
 use Rattle.tree.specs.Laid.{between, Written}
@@ -262,15 +262,20 @@ regroup : (a b c d : List ℕ) → (a ++ (b ++ c)) ++ d ≡ a ++ (b ++ (c ++ d))
 regroup a b c d = simp append-assoc
 
 -- an element begins with `<` and a letter
+begun : {tag name currency : List ℕ} → Shape tag name currency → (rest : List ℕ)
+    → (b : ℕ) × (y : List ℕ) × (tag ++ rest ≡ 60 ∷ b ∷ y) × (letter b ≡ true)
+begun x rest =
+    (x .initial, _, ap (λ (l : List ℕ). l ++ rest) (x .named ∙ ap (λ (l : List ℕ). 60 ∷ (l ++ x .behind ∷ x .rest)) (x .initial-is)), x .initial-letter)
+
 opens : {depth at : ℕ} {one : List ℕ} {t : Element} → IsElement depth at one t
     → (b : ℕ) × (y : List ℕ) × (one ≡ 60 ∷ b ∷ y) × (letter b ≡ true) × (head-of t .at ≡ at)
 unfolding head-of head
-opens (of-text {tag = tag} {name = name} {text = text} d g h) =
-    let x = shape-of g in
-    (x .initial, _, ap (λ (l : List ℕ). l ++ (text ++ end-tag name)) (x .named) ∙ ap (λ (l : List ℕ). (60 ∷ (l ++ x .behind ∷ x .rest)) ++ (text ++ end-tag name)) (x .initial-is), x .initial-letter, refl)
-opens (of-elements {tag = tag} {name = name} {inner = inner} d g h) =
-    let x = shape-of g in
-    (x .initial, _, ap (λ (l : List ℕ). l ++ (inner ++ end-tag name)) (x .named) ∙ ap (λ (l : List ℕ). (60 ∷ (l ++ x .behind ∷ x .rest)) ++ (inner ++ end-tag name)) (x .initial-is), x .initial-letter, refl)
+opens (of-text {name = name} {text = text} d g h) =
+    let (b, y, o, l) = begun (shape-of g) (text ++ end-tag name) in
+    (b, y, o, l, refl)
+opens (of-elements {name = name} {inner = inner} d g h) =
+    let (b, y, o, l) = begun (shape-of g) (inner ++ end-tag name) in
+    (b, y, o, l, refl)
 
 text-inside : {depth at : ℕ} {tag name currency text : List ℕ} → depth ≤ 12 → IsStartTag depth tag name currency → Every text-byte text
     → Inside depth at (tag ++ (text ++ end-tag name)) (holding-text (head name currency at tag text) text)
