@@ -117,8 +117,8 @@ name-letters (letter-and {b} e h l) =
     let f : (letter b || digit b) ≡ true = rw e in
     more f h
 
-of-name : (p : ℕ → Bool) (one other : ℕ) {name : List ℕ} → p one ≡ false → p other ≡ false → Every p name → Every (apart one other) name
-of-name p one other f g h = every-map (apart-by p one other f g) h
+every-apart : (p : ℕ → Bool) (one other : ℕ) {name : List ℕ} → p one ≡ false → p other ≡ false → Every p name → Every (apart one other) name
+every-apart p one other f g h = every-map (apart-by p one other f g) h
 
 root-shape : Shape root-tag (bytes "Document") []
 unfolding root-tag bytes letter from-to capital apart every
@@ -156,7 +156,7 @@ amount-shape a b c h =
       bodied = refl;
       body-apart =
           every-append (every-says (apart 62 62) (bytes "<InstdAmt Ccy=\"") refl)
-          (every-append (of-name capital 62 62 refl refl h) (every-says (apart 62 62) (bytes "\"") refl));
+          (every-append (every-apart capital 62 62 refl refl h) (every-says (apart 62 62) (bytes "\"") refl));
       money = λ e. (bytes "\">", refl, refl);
     }
 
@@ -169,14 +169,14 @@ plain-shape {name} n d =
       others = initial-of n .1;
       initial-is = initial-of n .2;
       initial-letter = initial-of n .3;
-      name-apart = of-name letter-or-digit 32 62 refl refl l;
+      name-apart = every-apart letter-or-digit 32 62 refl refl l;
       behind = 62;
       rest = [];
       named = refl;
       name-ends = inr refl;
       body = 60 ∷ name;
       bodied = refl;
-      body-apart = more refl (of-name letter-or-digit 62 62 refl refl l);
+      body-apart = more refl (every-apart letter-or-digit 62 62 refl refl l);
       money = λ e. absurd (d e);
     }
   where
@@ -289,7 +289,7 @@ text-inside {depth} {at} {tag} {name} {currency} {text} d g h =
           (tags-of s at tag name currency text rest (shape-of g) e′ end (n ∙ ap (λ (k : ℕ). at + k) (simp length-append)))
           (lie-none
           (first-in s (at + length tag) _ 60 60 text 60 ((47 ∷ name) ++ 62 ∷ rest)
-          (from-inner s at tag name currency text rest (shape-of g) e′ ∙ simp append-assoc) (of-name text-byte 60 60 refl refl h) (inl refl) refl)
+          (from-inner s at tag name currency text rest (shape-of g) e′ ∙ simp append-assoc) (every-apart text-byte 60 60 refl refl h) (inl refl) refl)
           (byte-is s (at + length tag + length text) (60 ∷ []) 47 (name ++ 62 ∷ rest) f))
           (sym (part-is s at tag text (end-tag name ++ rest) e′));
     }
@@ -310,7 +310,7 @@ elements-inside {depth} {at} {tag} {name} {currency} {inner} {t} {ts} d g h =
 
 white-first : (s : List ℕ) (at : ℕ) (space : List ℕ) (y : List ℕ) → Every white space → drop at s ≡ space ++ 60 ∷ y → First s at 60 60 (at + length space)
 unfolding white one-of is
-white-first s at space y h e = first-in s at _ 60 60 space 60 y e (of-name white 60 60 refl refl h) (inl refl) refl
+white-first s at space y h e = first-in s at _ 60 60 space 60 y e (every-apart white 60 60 refl refl h) (inl refl) refl
 
 no-more-inner : {depth at : ℕ} {space : List ℕ} → Every white space → Inner depth at space []ᵉ
 no-more-inner {depth} {at} {space} h =
@@ -369,7 +369,7 @@ module _ (before one after : List ℕ) (b : ℕ) (y : List ℕ) (o : one ≡ 60 
       refl
       (first-in s 1 _ 60 60 (tail ++ before) 60 (b ∷ (y ++ after))
       (ap (λ (w : List ℕ). tail ++ (before ++ (w ++ after))) o ∙ sym (append-assoc tail before (60 ∷ b ∷ (y ++ after))))
-      (every-append (every-says (apart 60 60) tail refl) (of-name white 60 60 refl refl h)) (inl refl)
+      (every-append (every-says (apart 60 60) tail refl) (every-apart white 60 60 refl refl h)) (inl refl)
       (omega (arith, length-append tail before)))
 
 -- as the pass finds it
