@@ -19,7 +19,7 @@ fn between(low: u8, high: u8, b: u8) -> bool
     b <= high
 }
 
-fn digit(b: u8) -> bool
+pub fn digit(b: u8) -> bool
     ensures { λ r. ⌜ r ≡ digit b ⌝ }
 {
     between(b'0', b'9', b)

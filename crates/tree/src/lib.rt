@@ -13,6 +13,16 @@ fn wide(x: u16) -> usize
     x as usize
 }
 
+// Number k of a buffer, 0 past its end.
+pub fn number(buffer: &[u16], k: usize) -> usize
+    ensures { λ r. ⌜ r ≡ getD (now (buffer .entry)) k 0 ⌝ }
+{
+    if buffer.len() <= k {
+        return 0;
+    }
+    wide(buffer[k])
+}
+
 // Number k of element i; 0 where the buffer has none.
 pub fn cell(tree: &[u16], i: usize, k: usize) -> usize
     ensures { λ r. ⌜ (i < 16384 → k < 5 → r ≡ cell-of (now (tree .entry)) i k) ⌝ }
@@ -23,11 +33,7 @@ pub fn cell(tree: &[u16], i: usize, k: usize) -> usize
     if 5 <= k {
         return 0;
     }
-    let at = i * 5 + k;
-    if tree.len() <= at {
-        return 0;
-    }
-    wide(tree[at])
+    number(tree, i * 5 + k)
 }
 
 // The text is what stands in the message from one offset to another.
