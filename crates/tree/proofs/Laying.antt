@@ -2,14 +2,14 @@
 use Prim.Native.Nat.{ℕ, _+_, _*_, _≤_, _<_}
 use mathlib.Core.List.{List}
 use mathlib.Core.Path.{_≡_, refl, sym, subst, _∙_}
-use mathlib.Core.Logic.{_⊎_, ⊎-elim}
+use mathlib.Core.Logic.{⊎-elim}
 use native.Mathlib.Omega.{arith}
 use native.Mathlib.Nat.{add-zero}
 use lib.ListN.{length, getD, set, length-set}
 use lib.Seq.{getD-set-same, getD-set-other}
 use Rattle.paper.specs.Form.{Head, Element, Elements, holding-text, holding-elements, []ᵉ, _∷ᵉ_, IsMessage}
 use Rattle.paper.specs.Rows.{head-of}
-use Rattle.tree.specs.Laid.{cell-of, Entry, Laid, laid-text, laid-elements, LaidAll, laid-none, laid-more}
+use Rattle.tree.specs.Laid.{Entry, Laid, laid-text, laid-elements, LaidAll, laid-none, laid-more}
 use Rattle.tree.specs.Lies.{First, Tags, held, Holds, Lies, lies, LieAll, lie-none, lie-more, RootAt, at-first, behind-declaration, Room, Kept, Stored, PutDown, LaysOne, LaysAll}
 use Rattle.tree.proofs.Laws.{entry-of}
 use Rattle.tree.proofs.Offsets.{message-placed}
@@ -34,6 +34,9 @@ module _ {s : List ℕ} {from one other i : ℕ} (f : First s from one other i) 
 -- as `find` answers
 abbrev pub Finds : (s : List ℕ) (from one other r : ℕ) → Type 0
 Finds s from one other r = (i : ℕ) → First s from one other i → r ≡ i
+
+found-at : {s : List ℕ} {from at one other i r : ℕ} → Finds s at one other r → First s from one other i → from ≡ at → r ≡ i
+found-at {s} {one = one} {other = other} {i = i} f g p = f i (subst (λ (a : ℕ). First s a one other i) p g)
 
 -- numbers of the buffer
 pub stored-set : (b : List ℕ) (at v : ℕ) → at < length b → Stored b (set b at v) at v
@@ -121,7 +124,7 @@ module _ {s b₀ b₁ b₂ : List ℕ} (at i depth name-end tag-end close next :
   inner : (t : Element) {e : ℕ} → Tags s (head-of t) e → LieAll s (depth + 1) (head-of t .start) (held t) (head-of t .close)
       → head-of t .at ≡ at → Room s b₀ i at → LaidAll s b₁ (held t) (i + 1) next × (close ≡ head-of t .close) × (3 * next ≤ close)
   inner t tags lie p room =
-      let x : tag-end ≡ tags .tag-end = g _ (subst (λ (a : ℕ). First s a 62 62 (tags .tag-end)) p (tags .tag-ends)) in
+      let x : tag-end ≡ tags .tag-end = found-at g (tags .tag-ends) p in
       all .laid (held t) (head-of t .close)
       (subst (λ (a : ℕ). LieAll s (depth + 1) a (held t) (head-of t .close)) (omega (arith, tags .start-is)) lie)
       (record { short = room .short; long = room .long; few = omega (arith, room .few, tags .long, tags .start-is) })
@@ -130,8 +133,8 @@ module _ {s b₀ b₁ b₂ : List ℕ} (at i depth name-end tag-end close next :
       → (close ≡ head-of t .close) → (3 * next ≤ close) → i < next → Entry s b₂ i (head-of t) next
   entry-put t tags p room q few l =
       let w = tags .written in
-      let nn : name-end ≡ head-of t .at + 1 + length (head-of t .name) = n _ (subst (λ (a : ℕ). First s a 32 62 (head-of t .at + 1 + length (head-of t .name))) p (tags .name-ends)) in
-      let x : tag-end ≡ tags .tag-end = g _ (subst (λ (a : ℕ). First s a 62 62 (tags .tag-end)) p (tags .tag-ends)) in
+      let nn : name-end ≡ head-of t .at + 1 + length (head-of t .name) = found-at n (tags .name-ends) p in
+      let x : tag-end ≡ tags .tag-end = found-at g (tags .tag-ends) p in
       let a : head-of t .at + 3 ≤ head-of t .start = tags .long in
       let b : head-of t .start ≡ tags .tag-end + 1 = tags .start-is in
       let c₁ : head-of t .at + 1 + length (head-of t .name) ≤ head-of t .start = w .name-inside in
@@ -171,7 +174,7 @@ module _ {s b₀ b₁ b₂ : List ℕ} (at i depth name-end tag-end close next :
       missed : {t : Element} {e : ℕ} → Lies s depth t e → head-of t .at ≡ at → Room s b₀ i at → ⊥
       missed {t} (lies d tags lie x) p room =
           let r = inner t tags lie p room in
-          let z : last ≡ tags .last = f _ (subst (λ (a : ℕ). First s a 62 62 (tags .last)) (sym (r .1)) (tags .last-is)) in
+          let z : last ≡ tags .last = found-at f (tags .last-is) (sym (r .1)) in
           omega (arith, tags .last-is .inside)
 
   pub one-laid : {last : ℕ} → Finds s close 62 62 last → i < 16384 → LaysOne s b₀ b₂ at i depth (last + 1) next
@@ -181,7 +184,7 @@ module _ {s b₀ b₁ b₂ : List ℕ} (at i depth name-end tag-end close next :
           → Laid s b₂ t i next × (last + 1 ≡ e) × (3 * next ≤ last + 1)
       went {t} (lies d tags lie x) p room =
           let r = inner t tags lie p room in
-          let z : last ≡ tags .last = f _ (subst (λ (a : ℕ). First s a 62 62 (tags .last)) (sym (r .1)) (tags .last-is)) in
+          let z : last ≡ tags .last = found-at f (tags .last-is) (sym (r .1)) in
           let g : i + 1 ≤ next = all-grow (r .0) in (
             closed t x (entry-put t tags p room (r .1) (r .2) (omega arith))
                 (all-stay (r .0) (record { length-same = put .kept .length-kept; agrees = λ k h l. put .above k h })),
@@ -209,7 +212,7 @@ no-tag-end {s} {b} {at} {i} {depth} {tag-end} g h =
   where
     never : {t : Element} {e : ℕ} → Lies s depth t e → head-of t .at ≡ at → ⊥
     never (lies d tags lie x) p =
-        let z : tag-end ≡ tags .tag-end = g _ (subst (λ (a : ℕ). First s a 62 62 (tags .tag-end)) p (tags .tag-ends)) in
+        let z : tag-end ≡ tags .tag-end = found-at g (tags .tag-ends) p in
         omega (arith, tags .tag-ends .inside)
 
 -- Elements, one after the other: what is known of the rest of them at the offset of a `<`, with the elements before it laid out from i up to `next`.

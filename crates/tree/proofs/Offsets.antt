@@ -6,13 +6,13 @@ use mathlib.Core.Path.{_≡_, refl, sym, ap, subst, _∙_}
 use mathlib.Core.Logic.{_⊎_, inl, inr}
 use native.Mathlib.Omega.{arith}
 use native.Mathlib.Numerals.{add-one}
-use native.Mathlib.Nat.{add-zero, zero-add}
+use native.Mathlib.Nat.{zero-add}
 use lib.Dec.{eqb}
 use lib.ListN.{length, getD, take, drop, length-append, length-drop, List·getD-append}
 use lib.Seq.{drop-drop, drop-append-seam, take-append-seam, getD-drop, getD-append-seam}
 use borrow.Author.Tests.{eq-eqb, eqb-true}
 use Rattle.paper.specs.Bytes.{bytes, is, from-to, one-of, white, text-byte, capital, letter, digit, letter-or-digit, Every, none, more, every}
-use Rattle.paper.specs.Form.{Head, Element, Elements, holding-text, holding-elements, []ᵉ, _∷ᵉ_, IsName, letter-and, root-tag, start-tag, amount-tag, end-tag, IsStartTag, root, amount, plain, head, IsElement, of-text, of-elements, AreElements, no-more, one-more, declaration, IsDeclaration, absent, present, IsMessage, message}
+use Rattle.paper.specs.Form.{Element, Elements, holding-text, holding-elements, []ᵉ, _∷ᵉ_, IsName, letter-and, root-tag, start-tag, amount-tag, end-tag, IsStartTag, root, amount, plain, head, IsElement, of-text, of-elements, no-more, one-more, declaration, IsDeclaration, absent, present, IsMessage, message}
 use Rattle.paper.specs.Rows.{head-of}
 use Rattle.paper.proofs.Laws.{false-not-true, every-says}
 use Rattle.tree.specs.Laid.{between, Written}
@@ -117,8 +117,8 @@ name-letters (letter-and {b} e h l) =
     let f : (letter b || digit b) ≡ true = rw e in
     more f h
 
-of-name : (p : ℕ → Bool) (one other : ℕ) {name : List ℕ} → p one ≡ false → p other ≡ false → Every p name → Every (apart one other) name
-of-name p one other f g h = every-map (apart-by p one other f g) h
+every-apart : (p : ℕ → Bool) (one other : ℕ) {name : List ℕ} → p one ≡ false → p other ≡ false → Every p name → Every (apart one other) name
+every-apart p one other f g h = every-map (apart-by p one other f g) h
 
 root-shape : Shape root-tag (bytes "Document") []
 unfolding root-tag bytes letter from-to capital apart every
@@ -156,7 +156,7 @@ amount-shape a b c h =
       bodied = refl;
       body-apart =
           every-append (every-says (apart 62 62) (bytes "<InstdAmt Ccy=\"") refl)
-          (every-append (of-name capital 62 62 refl refl h) (every-says (apart 62 62) (bytes "\"") refl));
+          (every-append (every-apart capital 62 62 refl refl h) (every-says (apart 62 62) (bytes "\"") refl));
       money = λ e. (bytes "\">", refl, refl);
     }
 
@@ -169,14 +169,14 @@ plain-shape {name} n d =
       others = initial-of n .1;
       initial-is = initial-of n .2;
       initial-letter = initial-of n .3;
-      name-apart = of-name letter-or-digit 32 62 refl refl l;
+      name-apart = every-apart letter-or-digit 32 62 refl refl l;
       behind = 62;
       rest = [];
       named = refl;
       name-ends = inr refl;
       body = 60 ∷ name;
       bodied = refl;
-      body-apart = more refl (of-name letter-or-digit 62 62 refl refl l);
+      body-apart = more refl (every-apart letter-or-digit 62 62 refl refl l);
       money = λ e. absurd (d e);
     }
   where
@@ -262,15 +262,20 @@ regroup : (a b c d : List ℕ) → (a ++ (b ++ c)) ++ d ≡ a ++ (b ++ (c ++ d))
 regroup a b c d = simp append-assoc
 
 -- an element begins with `<` and a letter
+begun : {tag name currency : List ℕ} → Shape tag name currency → (rest : List ℕ)
+    → (b : ℕ) × (y : List ℕ) × (tag ++ rest ≡ 60 ∷ b ∷ y) × (letter b ≡ true)
+begun x rest =
+    (x .initial, _, ap (λ (l : List ℕ). l ++ rest) (x .named ∙ ap (λ (l : List ℕ). 60 ∷ (l ++ x .behind ∷ x .rest)) (x .initial-is)), x .initial-letter)
+
 opens : {depth at : ℕ} {one : List ℕ} {t : Element} → IsElement depth at one t
     → (b : ℕ) × (y : List ℕ) × (one ≡ 60 ∷ b ∷ y) × (letter b ≡ true) × (head-of t .at ≡ at)
 unfolding head-of head
-opens (of-text {tag = tag} {name = name} {text = text} d g h) =
-    let x = shape-of g in
-    (x .initial, _, ap (λ (l : List ℕ). l ++ (text ++ end-tag name)) (x .named) ∙ ap (λ (l : List ℕ). (60 ∷ (l ++ x .behind ∷ x .rest)) ++ (text ++ end-tag name)) (x .initial-is), x .initial-letter, refl)
-opens (of-elements {tag = tag} {name = name} {inner = inner} d g h) =
-    let x = shape-of g in
-    (x .initial, _, ap (λ (l : List ℕ). l ++ (inner ++ end-tag name)) (x .named) ∙ ap (λ (l : List ℕ). (60 ∷ (l ++ x .behind ∷ x .rest)) ++ (inner ++ end-tag name)) (x .initial-is), x .initial-letter, refl)
+opens (of-text {name = name} {text = text} d g h) =
+    let (b, y, o, l) = begun (shape-of g) (text ++ end-tag name) in
+    (b, y, o, l, refl)
+opens (of-elements {name = name} {inner = inner} d g h) =
+    let (b, y, o, l) = begun (shape-of g) (inner ++ end-tag name) in
+    (b, y, o, l, refl)
 
 text-inside : {depth at : ℕ} {tag name currency text : List ℕ} → depth ≤ 12 → IsStartTag depth tag name currency → Every text-byte text
     → Inside depth at (tag ++ (text ++ end-tag name)) (holding-text (head name currency at tag text) text)
@@ -284,7 +289,7 @@ text-inside {depth} {at} {tag} {name} {currency} {text} d g h =
           (tags-of s at tag name currency text rest (shape-of g) e′ end (n ∙ ap (λ (k : ℕ). at + k) (simp length-append)))
           (lie-none
           (first-in s (at + length tag) _ 60 60 text 60 ((47 ∷ name) ++ 62 ∷ rest)
-          (from-inner s at tag name currency text rest (shape-of g) e′ ∙ simp append-assoc) (of-name text-byte 60 60 refl refl h) (inl refl) refl)
+          (from-inner s at tag name currency text rest (shape-of g) e′ ∙ simp append-assoc) (every-apart text-byte 60 60 refl refl h) (inl refl) refl)
           (byte-is s (at + length tag + length text) (60 ∷ []) 47 (name ++ 62 ∷ rest) f))
           (sym (part-is s at tag text (end-tag name ++ rest) e′));
     }
@@ -305,7 +310,7 @@ elements-inside {depth} {at} {tag} {name} {currency} {inner} {t} {ts} d g h =
 
 white-first : (s : List ℕ) (at : ℕ) (space : List ℕ) (y : List ℕ) → Every white space → drop at s ≡ space ++ 60 ∷ y → First s at 60 60 (at + length space)
 unfolding white one-of is
-white-first s at space y h e = first-in s at _ 60 60 space 60 y e (of-name white 60 60 refl refl h) (inl refl) refl
+white-first s at space y h e = first-in s at _ 60 60 space 60 y e (every-apart white 60 60 refl refl h) (inl refl) refl
 
 no-more-inner : {depth at : ℕ} {space : List ℕ} → Every white space → Inner depth at space []ᵉ
 no-more-inner {depth} {at} {space} h =
@@ -364,7 +369,7 @@ module _ (before one after : List ℕ) (b : ℕ) (y : List ℕ) (o : one ≡ 60 
       refl
       (first-in s 1 _ 60 60 (tail ++ before) 60 (b ∷ (y ++ after))
       (ap (λ (w : List ℕ). tail ++ (before ++ (w ++ after))) o ∙ sym (append-assoc tail before (60 ∷ b ∷ (y ++ after))))
-      (every-append (every-says (apart 60 60) tail refl) (of-name white 60 60 refl refl h)) (inl refl)
+      (every-append (every-says (apart 60 60) tail refl) (every-apart white 60 60 refl refl h)) (inl refl)
       (omega (arith, length-append tail before)))
 
 -- as the pass finds it

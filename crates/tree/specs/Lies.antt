@@ -1,10 +1,11 @@
 -- Where the elements of a message lie, by the first bytes that end each part: a name ends at the first space or `>`, a tag at the first `>`, and what
--- stands before an element or an end tag at the first `<`. The pass that lays the tree out is proved against this.
+-- stands before an element or an end tag at the first `<`. The pass that lays the tree out is proved against this. Bytes are numbers: 60 is `<`, 62 `>`,
+-- 47 `/`, 63 `?`, 32 a space.
 use Prim.Native.Nat.{ℕ, _+_, _*_, _≤_, _<_}
 use mathlib.Core.List.{List}
 use mathlib.Core.Path.{_≡_}
 use mathlib.Core.Logic.{_⊎_}
-use lib.ListN.{length, getD, take, drop}
+use lib.ListN.{length, getD}
 use Rattle.paper.specs.Form.{Head, Element, Elements, holding-text, holding-elements, []ᵉ, _∷ᵉ_}
 use Rattle.paper.specs.Rows.{head-of}
 use Rattle.tree.specs.Laid.{between, Written, Laid, LaidAll}
