@@ -1,0 +1,102 @@
+// The lent table after acceptance: sixteen numbers for each payment.
+use numbers::Reading;
+use order::Found;
+ghost use mathlib.Core.Path.{_≡_};
+ghost use mathlib.Core.List.{List, [], _∷_};
+ghost use mathlib.Core.Option.{Option};
+ghost use Prim.Native.Nat.{ℕ, _+_, _*_, _/_, _%_, _≤_, _<_};
+ghost use lib.ListN.{length};
+ghost use lib.Seq.{paste};
+ghost use Rattle.paper.specs.Form.{Element};
+ghost use Rattle.paper.specs.Payments.{Payment};
+ghost use Rattle.paper.specs.Table.{part-of};
+ghost use Rattle.tree.specs.Laid.{Laid};
+ghost use Rattle.order.specs.Finds.{Finds};
+ghost use Rattle.table.specs.Rows.{SpanIs, SpansOf};
+
+// A part of the message.
+pub struct Span {
+    pub start: usize,
+    pub size: usize,
+}
+
+// The parts of a payment's row: end-to-end id, creditor IBAN, creditor name, ultimate debtor's name, contents of row 16, debtor IBAN.
+pub struct Spans {
+    pub id: Span,
+    pub creditor: Span,
+    pub name: Span,
+    pub ultimate: Span,
+    pub kind: Span,
+    pub debtor: Span,
+}
+
+// The part that an element holds; 0, 0 where there is none.
+pub fn span_of(tree: &[u16], found: Found) -> Span
+    ensures { λ r. ⌜ ((s : List ℕ) (o : Option Element) → Finds s (now (tree .entry)) o found → SpanIs (part-of o) r) ⌝ }
+{
+    let Found::At(i) = found else {
+        return Span { start: 0, size: 0 };
+    };
+    let start = tree::cell(tree, i, 2);
+    let close = tree::cell(tree, i, 3);
+    if close < start {
+        return Span { start: 0, size: 0 };
+    }
+    Span {
+        start,
+        size: close - start,
+    }
+}
+
+fn spans_of(s: &[u8], tree: &[u16], own: usize, block: usize) -> Spans
+    ensures { λ r. ⌜ ((p : Payment) (m n : ℕ) → Laid (now (s .entry)) (now (tree .entry)) (p .own) own m → Laid (now (s .entry)) (now (tree .entry)) (p .block) block n → SpansOf p r) ⌝ }
+{
+    let id = span_of(tree, order::field_at(s, tree, own, block, 10));
+    let creditor = span_of(tree, order::field_at(s, tree, own, block, 14));
+    let name = span_of(tree, order::field_at(s, tree, own, block, 13));
+    let ultimate = span_of(tree, order::field_at(s, tree, own, block, 8));
+    let kind = span_of(tree, order::inherited1(s, tree, own, block, b"PmtTpInf"));
+    let debtor = span_of(tree, order::field_at(s, tree, own, block, 6));
+    Spans { id, creditor, name, ultimate, kind, debtor }
+}
+
+// The sixteen numbers, each of 32 bits.
+fn row(number: usize, of: Spans, cents: u64, at: usize) -> [u32; 16]
+    ensures { λ r. ⌜ r ≡ number % 4294967296 ∷ of .id .start % 4294967296 ∷ of .id .size % 4294967296 ∷ of .creditor .start % 4294967296 ∷ of .creditor .size % 4294967296 ∷ of .name .start % 4294967296 ∷ of .name .size % 4294967296 ∷ of .ultimate .start % 4294967296 ∷ of .ultimate .size % 4294967296 ∷ of .kind .start % 4294967296 ∷ of .kind .size % 4294967296 ∷ of .debtor .start % 4294967296 ∷ of .debtor .size % 4294967296 ∷ cents / 100 % 4294967296 ∷ cents % 100 ∷ at % 4294967296 ∷ [] ⌝ }
+{
+    [
+        (number % 4294967296) as u32,
+        (of.id.start % 4294967296) as u32,
+        (of.id.size % 4294967296) as u32,
+        (of.creditor.start % 4294967296) as u32,
+        (of.creditor.size % 4294967296) as u32,
+        (of.name.start % 4294967296) as u32,
+        (of.name.size % 4294967296) as u32,
+        (of.ultimate.start % 4294967296) as u32,
+        (of.ultimate.size % 4294967296) as u32,
+        (of.kind.start % 4294967296) as u32,
+        (of.kind.size % 4294967296) as u32,
+        (of.debtor.start % 4294967296) as u32,
+        (of.debtor.size % 4294967296) as u32,
+        (cents / 100 % 4294967296) as u32,
+        (cents % 100) as u32,
+        (at % 4294967296) as u32,
+    ]
+}
+
+// The sixteen numbers at a place of the table, where it has them.
+fn put(table: &mut [u32], at: usize, numbers: [u32; 16])
+    ensures { λ r. ⌜ (at + 16 ≤ length (now (table .entry)) → now (table .exit) ≡ paste (now (table .entry)) at numbers 16) ⌝ }
+{
+    if table.len() < 16 {
+        return;
+    }
+    if table.len() - 16 < at {
+        return;
+    }
+    let mut k = 0;
+    while k < 16 {
+        table[at + k] = numbers[k];
+        k += 1;
+    }
+}
