@@ -4,11 +4,11 @@ use mathlib.Core.List.{List, [], _∷_}
 use mathlib.Core.Option.{Option, none, some}
 use mathlib.Core.Path.{_≡_, refl, sym, ap, _∙_, subst}
 use native.Mathlib.Omega.{arith}
-use lib.ListN.{length, List·getD-eq-default}
+use lib.ListN.{List·getD-eq-default}
 use Rattle.paper.specs.Bytes.{bytes}
 use Rattle.paper.specs.Form.{Element}
 use Rattle.paper.specs.Rows.{rows, row-of, leaf, group, group-under}
-use Rattle.paper.specs.Payments.{Payment, follow, in-payment, in-block, inherited}
+use Rattle.paper.specs.Payments.{Payment, in-payment, in-block, inherited}
 use Rattle.paper.specs.Fields.{either-of, field-elements, field-element}
 use Rattle.tree.specs.Laid.{Laid}
 use Rattle.order.specs.Finds.{Finds, found-nothing, along, names-of, Leads, LeadsEither}

@@ -5,13 +5,13 @@ use mathlib.Core.Option.{Option, none, some}
 use mathlib.Core.Bool.{Bool, true, false}
 use mathlib.Core.Path.{_≡_, refl, sym, ap, _∙_, subst}
 use native.Mathlib.Omega.{arith}
-use Rattle.paper.specs.Bytes.{if_then_else_, same}
-use Rattle.paper.specs.Form.{Head, Element, Elements, holding-text, holding-elements, []ᵉ, _∷ᵉ_}
+use Rattle.paper.specs.Bytes.{same}
+use Rattle.paper.specs.Form.{Head, Element, Elements, []ᵉ, _∷ᵉ_}
 use Rattle.paper.specs.Rows.{Row, row-of, head-of}
 use Rattle.paper.specs.Payments.{Payment, listed, children, named, all-of, follow, in-payment, in-block, inherited}
 use Rattle.paper.specs.Payments.{child as child-row}
 use Rattle.paper.specs.Fields.{either-of}
-use Rattle.tree.specs.Laid.{cell-of, Entry, Laid, LaidAll, laid-text, laid-elements, laid-none, laid-more}
+use Rattle.tree.specs.Laid.{Entry, Laid, LaidAll, laid-text, laid-elements, laid-none, laid-more}
 use Rattle.tree.proofs.Laws.{Cell, next-cell, entry-of}
 use Rattle.order.specs.Finds.{Finds, found-at, found-nothing, SamePlace, same-at, same-nothing, with-name, first-of, child-named, child-under, along, names-of, Next, no-more, one-more}
 use Rattle.order.specs.declared.Found.{Found}

@@ -1,48 +1,46 @@
 -- The nested walk over blocks and payments: what is known before a block and before a payment of a block, and each step from one to the next.
-use Prim.Native.Nat.{ℕ, suc, _+_, _*_, _≤_, _<_}
+use Prim.Native.Nat.{ℕ, zero, suc, _+_, _*_, _≤_, _<_}
 use mathlib.Core.List.{List, [], _∷_, _++_, map}
 use mathlib.Core.Option.{Option, none, some}
-use mathlib.Core.Bool.{Bool, true, false}
 use mathlib.Core.Path.{_≡_, refl, sym, ap, _∙_, subst}
 use native.Mathlib.Omega.{arith}
 use native.Mathlib.Nat.{zero-add, add-zero}
 use native.Mathlib.Numerals.{add-one}
 use lib.ListN.{length, getD, set, length-set}
 use lib.Seq.{getD-set-same, getD-set-other}
-use borrow.Author.Tests.{eq-eqb, ne-eqb}
-use Rattle.paper.specs.Bytes.{if_then_else_, bytes}
+use borrow.Author.Tests.{ne-eqb}
+use Rattle.paper.specs.Bytes.{bytes}
 use Rattle.paper.specs.Form.{Element, Elements}
 use Rattle.paper.specs.Rows.{rows, row-of, leaf, group, group-under, head-of}
 use Rattle.paper.specs.Payments.{Payment, listed, children, all-of, blocks, payments-of, payments-from, payments}
-use Rattle.paper.specs.Payments.{child as child-row}
 use Rattle.paper.specs.Refusals.{Refusal, refuse, _or-else_, sixty-fifth, too-many, limits-refusal}
 use Rattle.paper.proofs.Laws.{some-not-none}
-use Rattle.tree.specs.Laid.{Entry, Laid, LaidAll}
-use Rattle.tree.proofs.Laws.{Cell, few-enough, at-cell, next-cell, entry-of}
-use Rattle.order.specs.Finds.{Finds, found-at, found-nothing, with-name, child-named, Next, no-more, one-more}
+use Rattle.tree.specs.Laid.{Laid, LaidAll}
+use Rattle.tree.proofs.Laws.{Cell, few-enough, at-cell, entry-of}
+use Rattle.order.specs.Finds.{Finds, with-name, child-named, Next}
 use Rattle.order.specs.Ordered.{BlocksAt, no-blocks, more-blocks, PaymentAt, PaymentsAt, no-payments, more-payments, Ordered, Limited, is-within, is-excess}
 use Rattle.order.specs.declared.Found.{Found}
 use Rattle.order.specs.declared.Found.the-variants.{At, Nothing}
 use Rattle.order.specs.declared.Limits.{Limits}
 use Rattle.order.specs.declared.Limits.the-variants.{Within, Excess}
-use Rattle.order.proofs.Laws.{all-is, child-is, ends-at, Located, located, absent, First, next-one, next-none}
+use Rattle.order.proofs.Laws.{all-is, child-is, ends-at, located, absent, next-one, next-none}
 
-abbrev block-name : List ℕ
+abbrev pub block-name : List ℕ
 block-name = bytes "PmtInf"
 
-abbrev payment-name : List ℕ
+abbrev pub payment-name : List ℕ
 payment-name = bytes "CdtTrfTxInf"
 
 -- the rows' names
-initiation-row : row-of rows 1 2 .name ≡ bytes "CstmrCdtTrfInitn"
+pub initiation-row : row-of rows 1 2 .name ≡ bytes "CstmrCdtTrfInitn"
 unfolding row-of rows leaf group group-under bytes
 initiation-row = refl
 
-block-row : row-of rows 2 10 .name ≡ block-name
+pub block-row : row-of rows 2 10 .name ≡ block-name
 unfolding row-of rows leaf group group-under bytes
 block-row = refl
 
-payment-row : row-of rows 10 37 .name ≡ payment-name
+pub payment-row : row-of rows 10 37 .name ≡ payment-name
 unfolding row-of rows leaf group group-under bytes
 payment-row = refl
 
@@ -61,10 +59,10 @@ unfolding paid
 paid-none number b ps = refl
 
 -- the elements of a block's payments
-abbrev payments-in : Element → List Element
+abbrev pub payments-in : Element → List Element
 payments-in b = with-name payment-name (children b)
 
-payments-in-are : (b : Element) → all-of rows 10 37 b ≡ payments-in b
+pub payments-in-are : (b : Element) → all-of rows 10 37 b ≡ payments-in b
 payments-in-are b = all-is rows 10 37 b ∙ ap (λ (name : List ℕ). with-name name (children b)) payment-row
 
 payments-of-are : (number : ℕ) (b : Element) → payments-of rows number b ≡ paid number b (payments-in b)
@@ -423,3 +421,22 @@ limits-agree (is-within p q r o) (is-within p' q' r' o') = cc
 limits-agree (is-within p q r o) (is-excess p') = some-not-none (sym p' ∙ p)
 limits-agree (is-excess p) (is-within p' q' r' o') = some-not-none (sym p ∙ p')
 limits-agree (is-excess p) (is-excess p') = same-excess _ _ _ _ (sym p ∙ p')
+
+-- The k-th block and the k-th payment stand where the order says.
+module _ {s tree out : List ℕ} where
+  pub block-at : {j : ℕ} {bs : List Element} → BlocksAt s tree out j bs → (k : ℕ) → k < length bs → (otherwise : Element)
+      → (next : ℕ) × Laid s tree (getD bs k otherwise) (getD out (j + k) 0) next
+  block-at no-blocks k h o = absurd (omega arith)
+  block-at {j} (more-blocks {next = next} {b = b} l bs) zero h o = (next, subst (λ (m : ℕ). Laid s tree b (getD out m 0) next) (sym (add-zero j)) l)
+  block-at {j} (more-blocks {bs = rest} l bs) (suc k) h o =
+      let f = block-at bs k (omega arith) o in
+      let e : j + 1 + k ≡ j + suc k = omega arith in
+      (f .0, subst (λ (m : ℕ). Laid s tree (getD rest k o) (getD out m 0) (f .0)) e (f .1))
+
+  pub payment-at : {j : ℕ} {ps : List Payment} → PaymentsAt s tree out j ps → (k : ℕ) → k < length ps → (otherwise : Payment)
+      → PaymentAt s tree out (j + k) (getD ps k otherwise)
+  payment-at no-payments k h o = absurd (omega arith)
+  payment-at {j} (more-payments {p = p} l ps) zero h o = subst (λ (m : ℕ). PaymentAt s tree out m p) (sym (add-zero j)) l
+  payment-at {j} (more-payments {ps = rest} l ps) (suc k) h o =
+      let e : j + 1 + k ≡ j + suc k = omega arith in
+      subst (λ (m : ℕ). PaymentAt s tree out m (getD rest k o)) e (payment-at ps k (omega arith) o)

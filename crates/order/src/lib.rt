@@ -36,7 +36,7 @@ fn next_named(s: &[u8], tree: &[u16], i: usize, stop: usize, name: &[u8]) -> usi
         }
         let next = tree::cell(tree, at, 4);
         if next <= at {
-            return at;
+            return stop;
         }
         at = next;
     }
@@ -175,19 +175,20 @@ fn put_payment(out: &mut [u16], k: usize, own: usize, block: usize, number: usiz
     put(out, 18 + 3 * k, number);
 }
 
-fn next_block(s: &[u8], tree: &[u16], block: usize, stop: usize) -> usize
+// The block after a block, the first payment of a block, and the payment after a payment; where there is none, the end of what holds them.
+pub fn next_block(s: &[u8], tree: &[u16], block: usize, stop: usize) -> usize
     ensures { λ r. ⌜ (block < stop → block < r) × ((t : Element) (ts : Elements) (next : ℕ) → Laid (now (s .entry)) (now (tree .entry)) t block next → LaidAll (now (s .entry)) (now (tree .entry)) ts next stop → Next (now (s .entry)) (now (tree .entry)) (bytes "PmtInf") (with-name (bytes "PmtInf") (listed ts)) r stop) ⌝ }
 {
     next_in(s, tree, block, stop, b"PmtInf")
 }
 
-fn first_payment(s: &[u8], tree: &[u16], block: usize) -> usize
+pub fn first_payment(s: &[u8], tree: &[u16], block: usize) -> usize
     ensures { λ r. ⌜ ((t : Element) (next : ℕ) → Laid (now (s .entry)) (now (tree .entry)) t block next → Next (now (s .entry)) (now (tree .entry)) (bytes "CdtTrfTxInf") (with-name (bytes "CdtTrfTxInf") (children t)) r next) ⌝ }
 {
     first_in(s, tree, block, b"CdtTrfTxInf")
 }
 
-fn next_payment(s: &[u8], tree: &[u16], own: usize, stop: usize) -> usize
+pub fn next_payment(s: &[u8], tree: &[u16], own: usize, stop: usize) -> usize
     ensures { λ r. ⌜ (own < stop → own < r) × ((t : Element) (ts : Elements) (next : ℕ) → Laid (now (s .entry)) (now (tree .entry)) t own next → LaidAll (now (s .entry)) (now (tree .entry)) ts next stop → Next (now (s .entry)) (now (tree .entry)) (bytes "CdtTrfTxInf") (with-name (bytes "CdtTrfTxInf") (listed ts)) r stop) ⌝ }
 {
     next_in(s, tree, own, stop, b"CdtTrfTxInf")
