@@ -2,7 +2,7 @@
 use Prim.Native.Nat.{ℕ, _^_, _≤_}
 use mathlib.Core.List.{List, [], _∷_}
 use mathlib.Core.Option.{Option, none, some}
-use mathlib.Core.Bool.{true}
+use mathlib.Core.Bool.{true, not}
 use mathlib.Core.Path.{_≡_}
 use lib.ListN.{length}
 use lib.Dec.{eqb}
@@ -10,7 +10,7 @@ use Rattle.paper.specs.Form.{Element}
 use Rattle.paper.specs.Rows.{rows}
 use Rattle.paper.specs.Values.{number, cents, digits, money}
 use Rattle.paper.specs.Payments.{Payment, text-of, child, all-of, follow, blocks, of-header, payments, sum-of, total}
-use Rattle.paper.specs.Refusals.{Refusal, refuse, _or-else_, unless, total-refusal}
+use Rattle.paper.specs.Refusals.{Refusal, refuse, _or-else_, unless, among-texts, total-refusal}
 use Rattle.paper.specs.Accepted.{All}
 use Rattle.counts.specs.declared.Sum.{Sum}
 use Rattle.counts.specs.declared.Sum.the-variants as sum
@@ -45,6 +45,10 @@ with-id earlier (some id) = text-of id ∷ earlier
 unfoldable pub with-ids : List (List ℕ) → List Element → List (List ℕ)
 with-ids earlier [] = earlier
 with-ids earlier (b ∷ bs) = with-ids (with-id earlier (child rows 10 11 b)) bs
+
+-- 11 of one block
+unfoldable pub id-refusal : (earlier : List (List ℕ)) → Element → Option Refusal
+id-refusal earlier b = unless (λ w. not (among-texts w earlier)) 11 11 (child rows 10 11 b)
 
 -- A sum as the code has it: in 64 bits, or too large for them.
 pub data Sums (n : ℕ) : Sum → Type 0 where
