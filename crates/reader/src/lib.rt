@@ -1,0 +1,1 @@
+// The verdict on a message, the lent table, and the text of a field.
