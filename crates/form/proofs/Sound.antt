@@ -173,11 +173,11 @@ opened-back at b s t m z =
     choose (suc at) s t (is "?" b) _ _ m
     (λ h m.
     let (rest, e, y) = want-means (drop 2 declaration) before 2 s t (rw z at m) in
-    rw (eqb-true b 63 h, e) (body-message present y))
+    rw (eqb-true b 63 h, e) (body-message {s = rest} present y))
     (λ _ m. choose (suc at) s t (is "D" b) _ _ m
     (λ h m.
     let (rest, e, y) = want-means (drop 2 root-tag) (in-root 0) 2 s t (rw z at m) in
-    rw (eqb-true b 68 h, e) (body-message absent (root-body 0 rest t y)))
+    rw (eqb-true b 68 h, e) (body-message {s = root-tag ++ rest} absent (root-body 0 rest t y)))
     (λ _ m. absurd m))
 
 before-back : (at b : ℕ) (s : List ℕ) (t : Element) → Goes (step before at b) (suc at) s t → Means before at (b ∷ s) t

@@ -1,5 +1,6 @@
 // Runs `form::form_of` over each case of the file `cases` and over each beginning of it, and writes what was found.
 // A case is a name and a text, each written as its length in decimal, a `:`, its bytes and a `,`; a line feed follows the two.
+// What it must write, `stdout`, was worked out from document 01 and not by a run.
 use form::Form;
 use libc::STDOUT_FILENO;
 ghost use Prim.Native.Nat.{_≤_};
