@@ -1,0 +1,4 @@
+-- Laws that belong to no one function.
+pub mod Parts
+pub mod Places
+pub mod Stands
