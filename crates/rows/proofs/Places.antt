@@ -11,10 +11,16 @@ use lib.Dec.{eqb, ltb}
 use borrow.Author.Tests.{ne-eqb, eqb-false, ltb-true, ltb-false}
 use Rattle.paper.specs.Bytes.{if_then_else_, same}
 use Rattle.paper.specs.Rows.{Place, one, opt, plus, either, further, Holds, text, elements, Row, row-of}
-use Rattle.paper.specs.Refusals.{rows-at, required, left-of, first-row, missing, Sought, never, early, found, past, named-in, seek}
-use Rattle.paper.proofs.Laws.{same-says}
+use Rattle.paper.specs.Refusals.{rows-at, required, left-of, first-row, missing, Sought, never, early, found, past, named-in, seek, Refusal, refuse, ends}
+use Rattle.paper.proofs.Laws.{same-says, false-not-true}
 use Rattle.rows.specs.Numbers.{of-entry, of-place, first-of, second-of, of-kind, place-at, places-from, places-between, places-left, holds-at, name-at, row-at, Stands}
-use Rattle.rows.specs.Walk.{behind, Resolved, Known, Takes}
+use Rattle.rows.specs.Walk.{lacking, behind, Resolved, Known, Takes, StandsAt, Seeks}
+use Rattle.rows.specs.declared.Lacks.{Lacks}
+use Rattle.rows.specs.declared.Lacks.the-variants as lacks
+use Rattle.rows.specs.declared.Standing.{Standing}
+use Rattle.rows.specs.declared.Sought.{Sought as Sought′}
+use Rattle.rows.specs.declared.Standing.the-variants as standing
+use Rattle.rows.specs.declared.Sought.the-variants as sought
 use Rattle.rows.specs.declared.Taker.the-variants as taker
 
 -- a place of each kind
@@ -166,3 +172,200 @@ module _ {table : List Row} {names rows places : List ℕ} {parent p : ℕ} (nam
         let s : same name (name-at names rows (of-place places p 1)) ≡ false = rw q at s in
         let s′ : same name (name-at names rows (of-place places p 2)) ≡ false = rw q′ at s′ in
         rw (kind-choice (of-place places p 0) (first-of rows places p) (second-of rows places p) h, named-by (first-of rows places p) (of-place places p 1) (r .first-is) s, named-by (second-of rows places p) (of-place places p 2) (r .second-is) s′)
+
+-- a child behind places that don't take it
+behind-one : (p : Place) (b : Bool) → required p ≡ b → (q : Sought) → past p q ≡ behind (if b then some (first-row (rows-at p)) else none) q
+unfolding behind past
+behind-one p true e never = refl
+behind-one p true e (early k) = rw e
+behind-one p true e (found k left) = rw e
+behind-one p false e never = refl
+behind-one p false e (early k) = rw e
+behind-one p false e (found k left) = rw e
+
+behind-known : (k : ℕ) (p : Place) (b : Bool) → required p ≡ b → (q : Sought) → behind (some k) (past p q) ≡ behind (some k) q
+unfolding behind past
+behind-known k p b e never = refl
+behind-known k p true e (early j) = rw e
+behind-known k p false e (early j) = rw e
+behind-known k p true e (found j left) = rw e
+behind-known k p false e (found j left) = rw e
+
+behind-past : (ps : List Place) (p : Place) (q : Sought) → behind (missing ps) (past p q) ≡ behind (missing (ps ++ (p ∷ []))) q
+unfolding missing behind
+behind-past [] p q = behind-one p (required p) refl q
+behind-past (o ∷ ps) p q = go (required o) (behind-past ps p q)
+  where
+    go : (b : Bool) → behind (missing ps) (past p q) ≡ behind (missing (ps ++ (p ∷ []))) q
+        → behind (if b then some (first-row (rows-at o)) else missing ps) (past p q)
+        ≡ behind (if b then some (first-row (rows-at o)) else missing (ps ++ (p ∷ []))) q
+    go true e = behind-known (first-row (rows-at o)) p (required p) refl q
+    go false e = e
+
+-- the search for a child's place, place by place
+module _ (table : List Row) (parent : ℕ) (name : List ℕ) where
+  seek-none : (p : Place) (ps : List Place) → named-in table parent (rows-at p) name ≡ none → seek table parent (p ∷ ps) name ≡ past p (seek table parent ps name)
+  unfolding seek
+  seek-none p ps e = rw (e, seek)
+
+  seek-some : (p : Place) (ps : List Place) (k : ℕ) → named-in table parent (rows-at p) name ≡ some k → seek table parent (p ∷ ps) name ≡ found k (left-of p ++ ps)
+  unfolding seek
+  seek-some p ps k e = rw (e, seek)
+
+  seek-nothing : (o : Option ℕ) → behind o (seek table parent [] name) ≡ never
+  unfolding seek behind
+  seek-nothing none = refl
+  seek-nothing (some k) = refl
+
+module _ (table : List Row) (rows places : List ℕ) (parent : ℕ) (name : List ℕ) where
+  -- how far the search has come: the places from `from` up to p don't take the name
+  abbrev pub SoFar : (from to p : ℕ) → Type 0
+  SoFar from to p =
+      seek table parent (places-between rows places from to) name ≡
+      behind (missing (places-between rows places from p)) (seek table parent (places-between rows places p to) name)
+
+  pub find-starts : (from to : ℕ) → SoFar from to from
+  unfolding missing behind
+  find-starts from to = rw (between-none rows places from from (omega arith))
+
+  module _ (names : List ℕ) (from to p : ℕ) where
+    pub find-goes : from ≤ p → p < to → SoFar from to p → Takes table names rows places parent name p taker.Nobody → SoFar from to (p + 1)
+    unfolding Takes
+    find-goes l h e t =
+        let one = ap (λ (ps : List Place). seek table parent ps name) (between-more rows places p to h) ∙ seek-none table parent name (place-at rows places p) (places-between rows places (p + 1) to) t in
+        e ∙ ap (λ (q : Sought). behind (missing (places-between rows places from p)) q) one ∙
+        behind-past (places-between rows places from p) (place-at rows places p) (seek table parent (places-between rows places (p + 1) to) name) ∙
+        ap (λ (ps : List Place). behind (missing ps) (seek table parent (places-between rows places (p + 1) to) name)) (sym (between-end rows places from p l))
+
+    pub find-stops : (d : ℕ) → from ≤ p → p < to → SoFar from to p → Takes table names rows places parent name p (taker.Entry d)
+        → StandsAt table names rows places parent name from to (standing.At p d)
+    unfolding Takes StandsAt
+    find-stops d l h e t =
+        let one = ap (λ (ps : List Place). seek table parent ps name) (between-more rows places p to h) ∙
+        seek-some table parent name (place-at rows places p) (places-between rows places (p + 1) to) (of-entry rows d 0) (t .0) in
+        (l, h, t .1, e ∙ ap (λ (q : Sought). behind (missing (places-between rows places from p)) q) one)
+
+    pub find-ends : to ≤ p → SoFar from to p → StandsAt table names rows places parent name from to standing.Nowhere
+    unfolding StandsAt
+    find-ends h e = e ∙ ap (λ (ps : List Place). behind (missing (places-between rows places from p)) (seek table parent ps name)) (between-none rows places p to h) ∙
+        seek-nothing table parent name (missing (places-between rows places from p))
+
+-- what comes of a child whose place is known
+module _ (table : List Row) (names rows places : List ℕ) (parent : ℕ) (name : List ℕ) (from to : ℕ) where
+  pub seek-never : {r : Standing} → StandsAt table names rows places parent name from to r → r ≡ standing.Nowhere
+      → Seeks table names rows places parent name (places-between rows places from to) from to sought.Never
+  unfolding StandsAt Seeks
+  seek-never s e = rw e at s
+
+  module _ {r : Standing} {p d : ℕ} (s : StandsAt table names rows places parent name from to r) (e : r ≡ standing.At p d) where
+    at : StandsAt table names rows places parent name from to (standing.At p d)
+    at = rw e at s
+
+    pub at-inside : p < to
+    unfolding StandsAt
+    at-inside = at .1
+
+    pub seek-early : {l : Lacks} {k : ℕ} → lacking l ≡ missing (places-between rows places from p) → l ≡ lacks.Row k
+        → Seeks table names rows places parent name (places-between rows places from to) from to (sought.Early k)
+    unfolding StandsAt Seeks lacking behind
+    seek-early {k = k} m q =
+        let found-at : some k ≡ missing (places-between rows places from p) = rw q at m in
+        at .3 ∙ ap (λ (o : Option ℕ). behind o (found (of-entry rows d 0) (left-of (place-at rows places p) ++ places-between rows places (p + 1) to))) (sym found-at)
+
+    module _ {l : Lacks} (m : lacking l ≡ missing (places-between rows places from p)) (q : l ≡ lacks.Nothing) where
+      seek-found : seek table parent (places-between rows places from to) name ≡ found (of-entry rows d 0) (left-of (place-at rows places p) ++ places-between rows places (p + 1) to)
+      unfolding StandsAt lacking behind
+      seek-found =
+          let found-at : none ≡ missing (places-between rows places from p) = rw q at m in
+          at .3 ∙ ap (λ (o : Option ℕ). behind o (found (of-entry rows d 0) (left-of (place-at rows places p) ++ places-between rows places (p + 1) to))) (sym found-at)
+
+      pub seek-plus : of-place places p 0 ≡ 2 → Seeks table names rows places parent name (places-between rows places from to) from to (sought.Found d p true)
+      unfolding StandsAt Seeks places-left place-at
+      seek-plus k = (
+        at .0,
+        λ _. at .1,
+        at .2,
+        seek-found ∙ ap (λ (ps : List Place). found (of-entry rows d 0) (ps ++ places-between rows places (p + 1) to))
+            (kind-plus (of-place places p 0) (first-of rows places p) (second-of rows places p) k),
+      )
+
+      pub seek-once : (of-place places p 0 ≡ 2 → ⊥) → Seeks table names rows places parent name (places-between rows places from to) from to (sought.Found d (p + 1) false)
+      unfolding StandsAt Seeks places-left place-at
+      seek-once k = (
+        omega (arith, at .0),
+        λ f. false-not-true f,
+        at .2,
+        seek-found ∙ ap (λ (ps : List Place). found (of-entry rows d 0) (ps ++ places-between rows places (p + 1) to))
+            (kind-once (of-place places p 0) (first-of rows places p) (second-of rows places p) k),
+      )
+
+  -- one of a `plus` may have been seen
+  abbrev pub Sought-where : Bool → Sought′ → Type 0
+  Sought-where seen r = Seeks table names rows places parent name (places-left rows places from seen to) from to r
+
+  pub seek-fresh : (r : Sought′) {seen : Bool} → seen ≡ false → Seeks table names rows places parent name (places-between rows places from to) from to r → Sought-where seen r
+  unfolding places-left
+  seek-fresh r f s = rw f s
+
+  pub seek-seen : (r : Sought′) {seen : Bool} → seen ≡ true → Sought-where true r → Sought-where seen r
+  seek-seen r f s = rw f s
+
+  module _ (f : Resolved table names rows places parent from) (h : from < to) where
+    pub seek-again : (d : ℕ) → d ≡ of-place places from 1 → same name (name-at names rows d) ≡ true → Sought-where true (sought.Found d from true)
+    unfolding Seeks places-left named-in rows-at left-of
+    seek-again d q s =
+        let t : same name (name-at names rows (of-place places from 1)) ≡ true = rw q at s in
+        let known = takes-known name f (of-place places from 1) refl (f .first-is) t in
+        let n : named-in table parent (rows-at (further (first-of rows places from))) name ≡ some (first-of rows places from) =
+        rw (named-by name f (first-of rows places from) (of-place places from 1) (f .first-is) t) in
+        (omega arith, λ _. h, rw q known, rw q (seek-some table parent name (further (first-of rows places from)) (places-between rows places (from + 1) to) (first-of rows places from) n))
+
+    further-past : (k : ℕ) (q : Sought) → past (further k) q ≡ q
+    unfolding past required
+    further-past k never = refl
+    further-past k (early j) = refl
+    further-past k (found j left) = refl
+
+    pub seek-on : (d : ℕ) → d ≡ of-place places from 1 → same name (name-at names rows d) ≡ false
+        → (r : Sought′) → Seeks table names rows places parent name (places-between rows places (from + 1) to) (from + 1) to r → Sought-where true r
+    unfolding Seeks places-left named-in rows-at
+    seek-on d q s r g = go r g
+      where
+        t : same name (name-at names rows (of-place places from 1)) ≡ false
+        t = rw q at s
+
+        n : named-in table parent (rows-at (further (first-of rows places from))) name ≡ none
+        n = rw (named-by name f (first-of rows places from) (of-place places from 1) (f .first-is) t)
+
+        skip : seek table parent (places-left rows places from true to) name ≡ seek table parent (places-between rows places (from + 1) to) name
+        skip =
+            seek-none table parent name (further (first-of rows places from)) (places-between rows places (from + 1) to) n ∙
+            further-past (first-of rows places from) (seek table parent (places-between rows places (from + 1) to) name)
+
+        go : (r : Sought′) → Seeks table names rows places parent name (places-between rows places (from + 1) to) (from + 1) to r → Sought-where true r
+        go sought.Never g = skip ∙ g
+        go (sought.Early k) g = skip ∙ g
+        go (sought.Found e p m) g = (omega (arith, g .0), g .1, g .2, skip ∙ g .3)
+
+-- the end tag
+module _ (close : ℕ) where
+  pub ends-early : (ps : List Place) {l : Lacks} {k : ℕ} → lacking l ≡ missing ps → l ≡ lacks.Row k → refuse 4 k close ≡ ends ps close
+  unfolding ends lacking
+  ends-early ps {k = k} m q = let e : missing ps ≡ some k = sym (rw q at m) in rw (e, ends)
+
+  pub ends-well : (ps : List Place) {l : Lacks} → lacking l ≡ missing ps → l ≡ lacks.Nothing → none ≡ ends ps close
+  unfolding ends lacking
+  ends-well ps m q = let e : missing ps ≡ none = sym (rw q at m) in rw (e, ends)
+
+  module _ (rows places : List ℕ) (from to : ℕ) where
+    pub ends-fresh : {o : Option Refusal} {seen : Bool} → seen ≡ false → o ≡ ends (places-between rows places from to) close → o ≡ ends (places-left rows places from seen to) close
+    unfolding places-left
+    ends-fresh f e = rw f e
+
+    pub ends-on : {o : Option Refusal} {seen : Bool} → seen ≡ true → o ≡ ends (places-between rows places (from + 1) to) close → o ≡ ends (places-left rows places from seen to) close
+    unfolding places-left ends missing required
+    ends-on f e = rw f e
+
+    pub ends-nothing : {seen : Bool} → seen ≡ true → to ≤ from → none ≡ ends (places-left rows places from seen to) close
+    unfolding places-left ends missing required
+    ends-nothing f h = rw (f, between-none rows places (from + 1) to (omega arith))

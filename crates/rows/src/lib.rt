@@ -4,7 +4,7 @@ mod table;
 
 use paper::Fault;
 ghost use mathlib.Core.Path.{_≡_};
-ghost use mathlib.Core.Bool.{Bool};
+ghost use mathlib.Core.Bool.{Bool, true};
 ghost use mathlib.Core.List.{List};
 ghost use Prim.Native.Nat.{ℕ, _+_, _≤_, _<_};
 ghost use lib.ListN.{length, getD};
@@ -144,4 +144,165 @@ fn taken_by(
         return Taker::Entry(second);
     }
     Taker::Nobody
+}
+
+// The first place from `from` up to `to` that takes the name of element i.
+fn find(
+    s: &[u8],
+    tree: &[u16],
+    names: &[u8],
+    rows: &[u16],
+    places: &[u16],
+    i: usize,
+    from: u16,
+    to: u16,
+) -> Standing
+    ensures { λ r. ⌜ ((table : List Row) (parent : ℕ) (h : Head) (next : ℕ) → ResolvedBetween table (now (names .entry)) (now (rows .entry)) (now (places .entry)) parent from to
+        → Entry (now (s .entry)) (now (tree .entry)) i h next → StandsAt table (now (names .entry)) (now (rows .entry)) (now (places .entry)) parent (h .name) from to r) ⌝ }
+{
+    let mut p = from;
+    while p < to {
+        let taker = taken_by(s, tree, names, rows, places, i, p);
+        if let Taker::Entry(entry) = taker {
+            return Standing::At { place: p, entry };
+        }
+        p += 1;
+    }
+    Standing::Nowhere
+}
+
+// What comes of element i where the places from `from` up to `to` are left.
+fn seek(
+    s: &[u8],
+    tree: &[u16],
+    names: &[u8],
+    rows: &[u16],
+    places: &[u16],
+    i: usize,
+    from: u16,
+    to: u16,
+) -> Sought
+    ensures { λ r. ⌜ ((table : List Row) (parent : ℕ) (h : Head) (next : ℕ) → ResolvedBetween table (now (names .entry)) (now (rows .entry)) (now (places .entry)) parent from to
+        → Entry (now (s .entry)) (now (tree .entry)) i h next
+        → Seeks table (now (names .entry)) (now (rows .entry)) (now (places .entry)) parent (h .name) (places-between (now (rows .entry)) (now (places .entry)) from to) from to r) ⌝ }
+{
+    let standing = find(s, tree, names, rows, places, i, from, to);
+    let Standing::At { place, entry } = standing else {
+        return Sought::Never;
+    };
+    let lacks = missing(rows, places, from, place);
+    if let Lacks::Row(first) = lacks {
+        return Sought::Early(first);
+    }
+    if of_place(places, place, 0) == 2 {
+        return Sought::Found {
+            entry,
+            place,
+            further: true,
+        };
+    }
+    if to <= place {
+        return Sought::Never;
+    }
+    Sought::Found {
+        entry,
+        place: place + 1,
+        further: false,
+    }
+}
+
+// The same where one of the `plus` at `from` may have been seen.
+fn seek_further(
+    s: &[u8],
+    tree: &[u16],
+    names: &[u8],
+    rows: &[u16],
+    places: &[u16],
+    i: usize,
+    from: u16,
+    further: bool,
+    to: u16,
+) -> Sought
+    ensures { λ r. ⌜ ((table : List Row) (parent : ℕ) (h : Head) (next : ℕ) → ResolvedBetween table (now (names .entry)) (now (rows .entry)) (now (places .entry)) parent from to
+        → (further ≡ true → from < to) → Entry (now (s .entry)) (now (tree .entry)) i h next
+        → Seeks table (now (names .entry)) (now (rows .entry)) (now (places .entry)) parent (h .name) (places-left (now (rows .entry)) (now (places .entry)) from further to) from to r) ⌝ }
+{
+    if !further {
+        return seek(s, tree, names, rows, places, i, from, to);
+    }
+    let entry = of_place(places, from, 1);
+    if named(s, tree, names, rows, i, entry) {
+        return Sought::Found {
+            entry,
+            place: from,
+            further: true,
+        };
+    }
+    if to <= from {
+        return Sought::Never;
+    }
+    seek(s, tree, names, rows, places, i, from + 1, to)
+}
+
+// The end tag of a group, where the places from `from` up to `to` are left.
+fn ends(rows: &[u16], places: &[u16], from: u16, to: u16, close: usize) -> Finding
+    ensures { λ r. ⌜ refusal-in r ≡ ends (places-between (now (rows .entry)) (now (places .entry)) from to) close ⌝ }
+{
+    let lacks = missing(rows, places, from, to);
+    if let Lacks::Row(element) = lacks {
+        return Finding::Refused(Fault::Missing {
+            element,
+            offset: close,
+        });
+    }
+    Finding::Nothing
+}
+
+// The same where one of the `plus` at `from` may have been seen.
+fn ends_further(
+    rows: &[u16],
+    places: &[u16],
+    from: u16,
+    further: bool,
+    to: u16,
+    close: usize,
+) -> Finding
+    ensures { λ r. ⌜ refusal-in r ≡ ends (places-left (now (rows .entry)) (now (places .entry)) from further to) close ⌝ }
+{
+    if !further {
+        return ends(rows, places, from, to, close);
+    }
+    if to <= from {
+        return Finding::Nothing;
+    }
+    ends(rows, places, from + 1, to, close)
+}
+
+fn white(b: u8) -> bool
+    ensures { λ r. ⌜ r ≡ white b ⌝ }
+{
+    if b == b' ' {
+        return true;
+    }
+    if b == b'\t' {
+        return true;
+    }
+    if b == b'\n' {
+        return true;
+    }
+    b == b'\r'
+}
+
+// The place of the first byte that is not white space; the length where there is none.
+fn first_black(s: &[u8]) -> usize
+    ensures { λ r. ⌜ r ≡ first-not white (now (s .entry)) ⌝ }
+{
+    let mut i = 0;
+    while i < s.len() {
+        if !white(s[i]) {
+            return i;
+        }
+        i += 1;
+    }
+    i
 }
