@@ -3,3 +3,4 @@ pub mod Rows
 pub mod Apart
 pub mod Stages
 pub mod Outcome
+pub mod Accepts

@@ -1,4 +1,4 @@
--- The cases that document 01 marks P, in its order, over the paper's definitions.
+-- The cases that document 01 marks P, in its order, and the verdict on M1 itself, over the paper's definitions.
 use Prim.Native.Nat.{ℕ}
 use Prim.Native.String.{String}
 use mathlib.Core.List.{List, [], _∷_, _++_}
@@ -8,7 +8,7 @@ use Rattle.paper.specs.Bytes.{bytes}
 use Rattle.paper.specs.Form.{root-tag}
 use Rattle.paper.specs.Rows.{rows}
 use Rattle.paper.specs.Values.{amount, iban, date}
-use Rattle.paper.specs.Refusals.{Answer, accepted, least-table, verdict}
+use Rattle.paper.specs.Refusals.{Answer, accepted, refused, least-table, verdict}
 use Rattle.paper.specs.Regrouping.{answered, regrouping}
 use Rattle.paper.specs.Regrouping as moves
 
@@ -88,7 +88,7 @@ Holds (value rule w allowed) = rule (bytes w) ≡ allowed
 Holds (moved first second file a) = regrouping rows first second file ≡ a
 
 unfoldable pub refused-with : (number element offset : ℕ) → Answer
-refused-with number element offset = record { number = number; element = element; offset = offset; blocks = 0; payments = 0; cents = 0 }
+refused-with number element offset = refused (record { number = number; element = element; offset = offset })
 
 unfoldable pub p-cases : List Case
 p-cases =

@@ -1,4 +1,4 @@
--- Acceptance, said without any order of checks (demand 2).
+-- Acceptance, said without any order of checks (demand 2). It speaks of a message; that the lent table is long enough is asked beside it.
 use Prim.Native.Nat.{ℕ, _≤_, _<_, _^_}
 use mathlib.Core.List.{List, [], _∷_, List·Memᴰ}
 use mathlib.Core.Option.{Option, none, some}
@@ -22,7 +22,7 @@ pub data Distinct {A : Type 0} : List A → Type 0 where
   distinct-none : Distinct []
   distinct-more : {a : A} {rest : List A} → (List·Memᴰ a rest → ⊥) → Distinct rest → Distinct (a ∷ rest)
 
--- Of any text; and of a text that is right for its row: its length, its characters, not spaces alone, its value.
+-- What makes a leaf's text right: for the rows alone, nothing; for the values its length, its characters, that it is not spaces alone, and its value.
 pub record AnyText (parent : ℕ) (r : Row) (h : Head) (w : List ℕ) : Type 0 where
 
 pub record RightText (parent : ℕ) (r : Row) (h : Head) (w : List ℕ) : Type 0 where
@@ -32,7 +32,7 @@ pub record RightText (parent : ℕ) (r : Row) (h : Head) (w : List ℕ) : Type 0
   pub not-blank : Every (is " ") w → ⊥
   pub value : allowed parent (r .row) (h .currency) w ≡ true
 
--- something stands there; a leaf, if it stands there, says a number
+-- something stands there; a leaf, if it stands there, says a number (that the leaves meant below stand there is said by `rows`)
 pub record There (o : Option Element) : Type 0 where
   pub it : Element
   pub is-it : o ≡ some it
@@ -40,13 +40,13 @@ pub record There (o : Option Element) : Type 0 where
 unfoldable pub Says : (List ℕ → ℕ) → Option Element → ℕ → Type 0
 Says means o n = (t : Element) → o ≡ some t → means (text-of t) ≡ n
 
-module _ (table : List Row) where
+module _ (profile : List Row) where
   -- Row 16 stands in the payment or in its block, and none of 16, 36, 34 stands in both.
   unfoldable pub NotBoth : ℕ → Payment → Type 0
-  NotBoth k p = There (in-payment table (k ∷ []) p) → There (in-block table (k ∷ []) p) → ⊥
+  NotBoth k p = There (in-payment profile (k ∷ []) p) → There (in-block profile (k ∷ []) p) → ⊥
 
   pub record Used (p : Payment) : Type 0 where
-    pub somewhere : There (in-payment table (16 ∷ []) p) ⊎ There (in-block table (16 ∷ []) p)
+    pub somewhere : There (in-payment profile (16 ∷ []) p) ⊎ There (in-block profile (16 ∷ []) p)
     pub type-once : NotBoth 16 p
     pub charges-once : NotBoth 36 p
     pub debtor-once : NotBoth 34 p
@@ -54,24 +54,24 @@ module _ (table : List Row) where
   -- the texts of the blocks' ids
   unfoldable pub ids : List Element → List (List ℕ)
   ids [] = []
-  ids (b ∷ bs) = elim (child table 10 11 b) [ none ↦ ids bs | some t ↦ text-of t ∷ ids bs ]
+  ids (b ∷ bs) = elim (child profile 10 11 b) [ none ↦ ids bs | some t ↦ text-of t ∷ ids bs ]
 
   -- A block's count and sum are the true number and the exact sum in cents of its payments; the header's are those of the message.
   pub record BlockCounts (b : Element) : Type 0 where
-    pub count : Says number (child table 10 14 b) (length (all-of table 10 37 b))
-    pub sum : Says cents (child table 10 15 b) (sum-of table (all-of table 10 37 b))
+    pub count : Says number (child profile 10 14 b) (length (all-of profile 10 37 b))
+    pub sum : Says cents (child profile 10 15 b) (sum-of profile (all-of profile 10 37 b))
 
   pub record AcceptedTree (root : Element) : Type 0 where
-    pub rows : Conforms table AnyText root 0 (row-of table 0 1)
-    pub blocks-limit : length (blocks table root) ≤ 16
-    pub payments-limit : length (payments table root) ≤ 64
-    pub values : Conforms table RightText root 0 (row-of table 0 1)
-    pub usage : All Used (payments table root)
-    pub ids-distinct : Distinct (ids (blocks table root))
-    pub total-fits : total table root < 2 ^ 64
-    pub count : Says number (of-header table 6 root) (length (payments table root))
-    pub sum : Says cents (of-header table 7 root) (total table root)
-    pub block-counts : All BlockCounts (blocks table root)
+    pub rows : Conforms profile AnyText root 0 (row-of profile 0 1)
+    pub blocks-limit : length (blocks profile root) ≤ 16
+    pub payments-limit : length (payments profile root) ≤ 64
+    pub values : Conforms profile RightText root 0 (row-of profile 0 1)
+    pub usage : All Used (payments profile root)
+    pub ids-distinct : Distinct (ids (blocks profile root))
+    pub total-fits : total profile root < 2 ^ 64
+    pub count : Says number (of-header profile 6 root) (length (payments profile root))
+    pub sum : Says cents (of-header profile 7 root) (total profile root)
+    pub block-counts : All BlockCounts (blocks profile root)
 
   -- A message is accepted.
   pub record Accepted (s : List ℕ) : Type 0 where

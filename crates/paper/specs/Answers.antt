@@ -1,7 +1,10 @@
 -- The answers of the code are enums. This gives the paper's number and values for each of their cases.
 use Prim.Native.Nat.{ℕ}
+use mathlib.Core.Option.{Option, none, some}
 use Rattle.paper.specs.declared.Fault.{Fault}
 use Rattle.paper.specs.declared.Fault.the-variants.{TableTooShort, MessageTooLong, NotOfTheForm, NotAllowedThere, Missing, TooMany, EmptyOrTooLong, CharacterNotInTheSet, ValueNotAllowed, InPaymentAndBlock, InNeither, BlockIdRepeated, TotalTooLarge, CountDiffers, SumDiffers}
+use Rattle.paper.specs.declared.Finding.{Finding}
+use Rattle.paper.specs.declared.Finding.the-variants as finding
 use Rattle.paper.specs.declared.Verdict.{Verdict}
 use Rattle.paper.specs.declared.Verdict.the-variants.{Accepted, Refused}
 use Rattle.paper.specs.declared.Regrouping.{Regrouping}
@@ -29,6 +32,10 @@ refusal-of (BlockIdRepeated offset) = numbered 11 11 offset
 refusal-of (TotalTooLarge offset) = numbered 21 7 offset
 refusal-of (CountDiffers element offset) = numbered 12 element offset
 refusal-of (SumDiffers element offset) = numbered 13 element offset
+
+unfoldable pub refusal-found : Finding → Option Refusal
+refusal-found finding.Nothing = none
+refusal-found (finding.Refused fault) = some (refusal-of fault)
 
 unfoldable pub answer-of : Verdict → Answer
 answer-of (Accepted blocks payments cents) = accepted blocks payments cents

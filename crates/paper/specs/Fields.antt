@@ -42,27 +42,27 @@ same-value [] (w ∷ ws) = false
 same-value (v ∷ vs) [] = false
 same-value (v ∷ vs) (w ∷ ws) = same v w && same-value vs ws
 
-module _ (table : List Row) where
+module _ (profile : List Row) where
   -- where the fields stand, 1 to 17 (agent: BIC or NOTPROVIDED; remittance: Ustrd or Ref)
   unfoldable pub field-elements : Payment → List (Option Element)
   field-elements p =
-      in-block table (13 ∷ []) p ∷
-      inherited table (16 ∷ 17 ∷ []) p ∷
-      inherited table (16 ∷ 20 ∷ 21 ∷ []) p ∷
-      in-block table (22 ∷ 23 ∷ []) p ∷
-      in-block table (24 ∷ 25 ∷ []) p ∷
-      in-block table (26 ∷ 27 ∷ 28 ∷ []) p ∷
-      either-of (in-block table (29 ∷ 30 ∷ 31 ∷ []) p) (in-block table (29 ∷ 30 ∷ 32 ∷ 33 ∷ []) p) ∷
-      inherited table (34 ∷ 35 ∷ []) p ∷
-      in-payment table (38 ∷ 39 ∷ []) p ∷
-      in-payment table (38 ∷ 40 ∷ []) p ∷
-      in-payment table (41 ∷ 42 ∷ []) p ∷
-      in-payment table (43 ∷ 30 ∷ 31 ∷ []) p ∷
-      in-payment table (44 ∷ 25 ∷ []) p ∷
-      in-payment table (45 ∷ 27 ∷ 28 ∷ []) p ∷
-      in-payment table (46 ∷ 35 ∷ []) p ∷
-      in-payment table (47 ∷ 21 ∷ []) p ∷
-      either-of (in-payment table (48 ∷ 49 ∷ []) p) (in-payment table (48 ∷ 50 ∷ 51 ∷ 55 ∷ []) p) ∷ []
+      in-block profile (13 ∷ []) p ∷
+      inherited profile (16 ∷ 17 ∷ []) p ∷
+      inherited profile (16 ∷ 20 ∷ 21 ∷ []) p ∷
+      in-block profile (22 ∷ 23 ∷ []) p ∷
+      in-block profile (24 ∷ 25 ∷ []) p ∷
+      in-block profile (26 ∷ 27 ∷ 28 ∷ []) p ∷
+      either-of (in-block profile (29 ∷ 30 ∷ 31 ∷ []) p) (in-block profile (29 ∷ 30 ∷ 32 ∷ 33 ∷ []) p) ∷
+      inherited profile (34 ∷ 35 ∷ []) p ∷
+      in-payment profile (38 ∷ 39 ∷ []) p ∷
+      in-payment profile (38 ∷ 40 ∷ []) p ∷
+      in-payment profile (41 ∷ 42 ∷ []) p ∷
+      in-payment profile (43 ∷ 30 ∷ 31 ∷ []) p ∷
+      in-payment profile (44 ∷ 25 ∷ []) p ∷
+      in-payment profile (45 ∷ 27 ∷ 28 ∷ []) p ∷
+      in-payment profile (46 ∷ 35 ∷ []) p ∷
+      in-payment profile (47 ∷ 21 ∷ []) p ∷
+      either-of (in-payment profile (48 ∷ 49 ∷ []) p) (in-payment profile (48 ∷ 50 ∷ 51 ∷ 55 ∷ []) p) ∷ []
 
   unfoldable pub field-element : (field : ℕ) → Payment → Option Element
   field-element field p = getD (none ∷ field-elements p) field none
@@ -82,14 +82,14 @@ module _ (table : List Row) where
       given (field-element 8 p) ∷
       given (field-element 9 p) ∷
       given (field-element 10 p) ∷
-      ((amount-of table (p .own) ∷ []) ∷ []) ∷
+      ((amount-of profile (p .own) ∷ []) ∷ []) ∷
       given (field-element 12 p) ∷
       given (field-element 13 p) ∷
       given (field-element 14 p) ∷
       given (field-element 15 p) ∷
       given (field-element 16 p) ∷
-      remittance (in-payment table (48 ∷ 49 ∷ []) p) (in-payment table (48 ∷ 50 ∷ 51 ∷ 52 ∷ 54 ∷ []) p)
-      (in-payment table (48 ∷ 50 ∷ 51 ∷ 55 ∷ []) p) ∷ []
+      remittance (in-payment profile (48 ∷ 49 ∷ []) p) (in-payment profile (48 ∷ 50 ∷ 51 ∷ 52 ∷ 54 ∷ []) p)
+      (in-payment profile (48 ∷ 50 ∷ 51 ∷ 55 ∷ []) p) ∷ []
 
   -- Asked for a field's text, the reader hands back that part of the lent message. Refused message, unknown payment or field, or no such element: the empty
   -- part at 0.
@@ -100,9 +100,9 @@ module _ (table : List Row) where
 
   unfoldable pub field-part : Outcome → (payment field : ℕ) → Part
   field-part (refused-as r) payment field = part-of none
-  field-part (accepted-with root) payment field = field-of (payments table root) payment field
+  field-part (accepted-with root) payment field = field-of (payments profile root) payment field
 
--- the lowest field, from n on, in which two payments differ
+-- the lowest field, from n on, in which two payments differ (both have seventeen)
 unfoldable pub differ-from : ℕ → List Value → List Value → Option ℕ
 differ-from n [] ws = none
 differ-from n (v ∷ vs) [] = none

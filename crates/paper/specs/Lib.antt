@@ -1,4 +1,5 @@
--- Document 01 as definitions, in its words and its order. A reader who believes these files knows what is proved.
+-- Document 01 as definitions, in its words and its order. What is proved is proved about these; which outcome a contract takes them at, and what the host
+-- and the programs do with the answers, is said by the contracts (docs/PROMISES.md lists them).
 pub mod Bytes
 pub mod Form
 pub mod Reading

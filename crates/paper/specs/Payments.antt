@@ -1,4 +1,4 @@
--- Blocks and payments of a message, and what a payment takes from its block. All of it reads the tree of a message over a table of rows.
+-- Blocks and payments of a message, and what a payment takes from its block. All of it reads the tree of a message over a profile: a table of rows.
 use Prim.Native.Nat.{ℕ, suc, _+_}
 use mathlib.Core.List.{List, [], _∷_, _++_, map}
 use mathlib.Core.Option.{Option, none, some}
@@ -26,12 +26,12 @@ pub record Payment : Type 0 where
   pub block : Element
   pub block-number : ℕ
 
-module _ (table : List Row) where
+module _ (profile : List Row) where
   -- of an element that is row `parent`, all children that are row k; and the first of them
   unfoldable pub named : (parent k : ℕ) → List Element → List Element
   named parent k [] = []
   named parent k (t ∷ ts) =
-      if same (head-of t .name) (row-of table parent k .name) then t ∷ named parent k ts else named parent k ts
+      if same (head-of t .name) (row-of profile parent k .name) then t ∷ named parent k ts else named parent k ts
 
   unfoldable pub all-of : (parent k : ℕ) → Element → List Element
   all-of parent k t = named parent k (children t)

@@ -26,7 +26,7 @@ closed o close = record { name = o .name; currency = o .currency; at = o .at; st
 pub data State : Type 0 where
   -- this byte, these bytes, and then what the state says
   fixed : ℕ → List ℕ → State → State
-  -- nothing has been read; a `<` at offset 0; white space, perhaps behind the declaration
+  -- nothing has been read; a `<` at offset 0; behind the declaration or white space, where the root may begin
   opening opened before : State
   -- a `<` at an offset, behind which the end tag or a child of this depth goes on
   angle : (depth at : ℕ) → State → (Element → State) → State
@@ -34,7 +34,8 @@ pub data State : Type 0 where
   naming : (depth at : ℕ) → List ℕ → (room : ℕ) → (Element → State) → State
   -- the letters of a currency, of which one and so many more are to come
   capitals : ℕ → List ℕ → (List ℕ → State) → State
-  -- in an element: white space alone; text; children, given those that are to come
+  -- in an element: nothing or white space so far; text that is not all white space; at least one child (the function puts those read so far before those
+  -- to come)
   blank : Open → List ℕ → (Element → State) → State
   text : Open → List ℕ → (Element → State) → State
   among : Open → (Elements → Elements) → (Element → State) → State

@@ -100,38 +100,13 @@ past p never = never
 past p (early first) = if required p then early (first-row (rows-at p)) else early first
 past p (found k left) = if required p then early (first-row (rows-at p)) else found k left
 
--- 6 to 8 at one leaf, tried 6, 7, 8: it is empty or too long; a character is not in the set; the value is not allowed.
-unfoldable pub longest-of : Holds → ℕ
-longest-of (text longest) = longest
-longest-of (elements places) = 0
-
-unfoldable pub leaf-refusal : (parent : ℕ) → Row → Head → List ℕ → Option Refusal
-leaf-refusal parent r h w =
-    if not (lies-from 1 (longest-of (r .holds)) (length w)) then refuse 6 (r .row) (h .at) else
-    if not (every value-character w) then refuse 7 (r .row) (h .start + first-not value-character w) else
-    if every (is " ") w || not (allowed parent (r .row) (h .currency) w) then refuse 8 (r .row) (h .at) else none
-
 unfoldable pub no-judgement : (parent : ℕ) → Row → Head → List ℕ → Option Refusal
 no-judgement parent r h w = none
 
-unfoldable pub among-texts : List ℕ → List (List ℕ) → Bool
-among-texts w [] = false
-among-texts w (v ∷ vs) = same w v || among-texts w vs
-
--- where an element stands that must be there
-unfoldable pub at-of : Option Element → ℕ
-at-of none = 0
-at-of (some t) = head-of t .at
-
--- a refusal at a leaf, where the leaf's text is not as it should be
-unfoldable pub unless : (List ℕ → Bool) → (number row : ℕ) → Option Element → Option Refusal
-unless right number row none = none
-unless right number row (some t) = if right (text-of t) then none else refuse number row (head-of t .at)
-
-module _ (table : List Row) where
+module _ (profile : List Row) where
   unfoldable pub named-in : (parent : ℕ) → List ℕ → (name : List ℕ) → Option ℕ
   named-in parent [] name = none
-  named-in parent (k ∷ ks) name = if same name (row-of table parent k .name) then some k else named-in parent ks name
+  named-in parent (k ∷ ks) name = if same name (row-of profile parent k .name) then some k else named-in parent ks name
 
   unfoldable pub seek : (parent : ℕ) → List Place → (name : List ℕ) → Sought
   seek parent [] name = never
@@ -151,14 +126,15 @@ module _ (table : List Row) where
           elim (seek row places (head-of t .name)) [
             | never ↦ refuse 3 row (head-of t .at)
             | early first ↦ refuse 4 first (head-of t .at)
-            | found k left ↦ walk t row (row-of table row k) or-else walk-all ts row left close
+            | found k left ↦ walk t row (row-of profile row k) or-else walk-all ts row left close
           ]
 
   -- 3 and 4: no judgement at the leaves.
   unfoldable pub rows-refusal : Element → Option Refusal
-  rows-refusal root = walk no-judgement root 0 (row-of table 0 1)
+  rows-refusal root = walk no-judgement root 0 (row-of profile 0 1)
 
-  -- 5: the 17th block or the 65th payment, whichever comes first.
+-- 5: the 17th block or the 65th payment, whichever comes first.
+module _ (profile : List Row) where
   unfoldable pub sixty-fifth : (payments-before : ℕ) → List Element → Option Refusal
   sixty-fifth n [] = none
   sixty-fifth n (t ∷ ts) = if eqb n 64 then refuse 5 37 (head-of t .at) else sixty-fifth (suc n) ts
@@ -167,28 +143,41 @@ module _ (table : List Row) where
   too-many b n [] = none
   too-many b n (t ∷ ts) =
       if eqb b 16 then refuse 5 10 (head-of t .at) else
-      (sixty-fifth n (all-of table 10 37 t) or-else too-many (suc b) (n + length (all-of table 10 37 t)) ts)
+      (sixty-fifth n (all-of profile 10 37 t) or-else too-many (suc b) (n + length (all-of profile 10 37 t)) ts)
 
   unfoldable pub limits-refusal : Element → Option Refusal
-  limits-refusal root = too-many 0 0 (blocks table root)
+  limits-refusal root = too-many 0 0 (blocks profile root)
 
-  -- 6 to 8: the same walk, with that judgement at each leaf.
+-- 6 to 8 at one leaf, tried 6, 7, 8: it is empty or too long; a character is not in the set; the value is not allowed.
+unfoldable pub longest-of : Holds → ℕ
+longest-of (text longest) = longest
+longest-of (elements places) = 0
+
+unfoldable pub leaf-refusal : (parent : ℕ) → Row → Head → List ℕ → Option Refusal
+leaf-refusal parent r h w =
+    if not (lies-from 1 (longest-of (r .holds)) (length w)) then refuse 6 (r .row) (h .at) else
+    if not (every value-character w) then refuse 7 (r .row) (h .start + first-not value-character w) else
+    if every (is " ") w || not (allowed parent (r .row) (h .currency) w) then refuse 8 (r .row) (h .at) else none
+
+-- 6 to 8: the walk with that judgement at each leaf.
+module _ (profile : List Row) where
   unfoldable pub values-refusal : Element → Option Refusal
-  values-refusal root = walk leaf-refusal root 0 (row-of table 0 1)
+  values-refusal root = walk profile leaf-refusal root 0 (row-of profile 0 1)
 
-  -- 9 and 10: one walk over payments, in each 16, 36, 34.
+-- 9 and 10: one walk over payments, in each 16, 36, 34.
+module _ (profile : List Row) where
   unfoldable pub in-both : ℕ → Payment → Option Refusal
   in-both k p =
-      elim (in-payment table (k ∷ []) p) [
+      elim (in-payment profile (k ∷ []) p) [
         | none ↦ none
-        | some t ↦ elim (in-block table (k ∷ []) p) [ none ↦ none | some u ↦ refuse 9 k (head-of t .at) ]
+        | some t ↦ elim (in-block profile (k ∷ []) p) [ none ↦ none | some u ↦ refuse 9 k (head-of t .at) ]
       ]
 
   unfoldable pub in-neither : ℕ → Payment → Option Refusal
   in-neither k p =
-      elim (in-payment table (k ∷ []) p) [
+      elim (in-payment profile (k ∷ []) p) [
         | some t ↦ none
-        | none ↦ elim (in-block table (k ∷ []) p) [ some u ↦ none | none ↦ refuse 10 k (head-of (p .own) .at) ]
+        | none ↦ elim (in-block profile (k ∷ []) p) [ some u ↦ none | none ↦ refuse 10 k (head-of (p .own) .at) ]
       ]
 
   unfoldable pub usage : List Payment → Option Refusal
@@ -196,42 +185,60 @@ module _ (table : List Row) where
   usage (p ∷ ps) = in-both 16 p or-else in-neither 16 p or-else in-both 36 p or-else in-both 34 p or-else usage ps
 
   unfoldable pub usage-refusal : Element → Option Refusal
-  usage-refusal root = usage (payments table root)
+  usage-refusal root = usage (payments profile root)
 
-  -- 11: a block id equal, byte for byte, to an earlier block's.
+-- 11: a block id equal, byte for byte, to an earlier block's.
+unfoldable pub among-texts : List ℕ → List (List ℕ) → Bool
+among-texts w [] = false
+among-texts w (v ∷ vs) = same w v || among-texts w vs
+
+module _ (profile : List Row) where
   unfoldable pub repeated : (earlier : List (List ℕ)) → List Element → Option Refusal
   repeated earlier [] = none
   repeated earlier (b ∷ bs) =
-      elim (child table 10 11 b) [
+      elim (child profile 10 11 b) [
         | none ↦ repeated earlier bs
         | some id ↦ if among-texts (text-of id) earlier then refuse 11 11 (head-of id .at) else repeated (text-of id ∷ earlier) bs
       ]
 
   unfoldable pub ids-refusal : Element → Option Refusal
-  ids-refusal root = repeated [] (blocks table root)
+  ids-refusal root = repeated [] (blocks profile root)
 
-  -- 21: the total of the amounts above 64 bits.
+-- where an element stands that must be there
+unfoldable pub at-of : Option Element → ℕ
+at-of none = 0
+at-of (some t) = head-of t .at
+
+-- 21: the total of the amounts above 64 bits.
+module _ (profile : List Row) where
   unfoldable pub total-refusal : Element → Option Refusal
-  total-refusal root = if ltb (total table root) (2 ^ 64) then none else refuse 21 7 (at-of (of-header table 7 root))
+  total-refusal root = if ltb (total profile root) (2 ^ 64) then none else refuse 21 7 (at-of (of-header profile 7 root))
 
-  -- 12 and 13: one walk: header count, header sum, then each block's count and sum. Header numbers cover the whole message.
+-- a refusal at a leaf, where the leaf's text is not as it should be
+unfoldable pub unless : (List ℕ → Bool) → (number row : ℕ) → Option Element → Option Refusal
+unless right number row none = none
+unless right number row (some t) = if right (text-of t) then none else refuse number row (head-of t .at)
+
+-- 12 and 13: one walk: header count, header sum, then each block's count and sum. Header numbers cover the whole message.
+module _ (profile : List Row) where
   unfoldable pub block-counts : List Element → Option Refusal
   block-counts [] = none
   block-counts (b ∷ bs) =
-      unless (λ w. eqb (number w) (length (all-of table 10 37 b))) 12 14 (child table 10 14 b) or-else
-      unless (λ w. eqb (cents w) (sum-of table (all-of table 10 37 b))) 13 15 (child table 10 15 b) or-else block-counts bs
+      unless (λ w. eqb (number w) (length (all-of profile 10 37 b))) 12 14 (child profile 10 14 b) or-else
+      unless (λ w. eqb (cents w) (sum-of profile (all-of profile 10 37 b))) 13 15 (child profile 10 15 b) or-else block-counts bs
 
   unfoldable pub counts-refusal : Element → Option Refusal
   counts-refusal root =
-      unless (λ w. eqb (number w) (length (payments table root))) 12 6 (of-header table 6 root) or-else
-      unless (λ w. eqb (cents w) (total table root)) 13 7 (of-header table 7 root) or-else
-      block-counts (blocks table root)
+      unless (λ w. eqb (number w) (length (payments profile root))) 12 6 (of-header profile 6 root) or-else
+      unless (λ w. eqb (cents w) (total profile root)) 13 7 (of-header profile 7 root) or-else
+      block-counts (blocks profile root)
 
-  -- the stages over the tree of a message of the form
+-- the stages over the tree of a message of the form
+module _ (profile : List Row) where
   unfoldable pub tree-refusal : Element → Option Refusal
   tree-refusal root =
-      rows-refusal root or-else limits-refusal root or-else values-refusal root or-else usage-refusal root or-else ids-refusal root or-else
-      total-refusal root or-else counts-refusal root
+      rows-refusal profile root or-else limits-refusal profile root or-else values-refusal profile root or-else usage-refusal profile root or-else
+      ids-refusal profile root or-else total-refusal profile root or-else counts-refusal profile root
 
 -- What comes of a message: a refusal, or acceptance, with the root of the message's tree.
 pub data Outcome : Type 0 where
@@ -244,19 +251,30 @@ unless-refused none otherwise = otherwise
 
 -- 2: the form, at the offset where the reading stops.
 unfoldable pub of-reading : List Row → Reading → Outcome
-of-reading table (stops-at n) = refused-as (record { number = 2; element = 0; offset = n })
-of-reading table (root-is root) = unless-refused (tree-refusal table root) (accepted-with root)
+of-reading profile (stops-at n) = refused-as (record { number = 2; element = 0; offset = n })
+of-reading profile (root-is root) = unless-refused (tree-refusal profile root) (accepted-with root)
 
 -- where no table is lent, as in a regrouping; and where a table of so many numbers is
 unfoldable pub outcome-alone : List Row → List ℕ → Outcome
-outcome-alone table s = unless-refused (size-refusal s) (of-reading table (read s))
+outcome-alone profile s = unless-refused (size-refusal s) (of-reading profile (read s))
 
 unfoldable pub outcome : List Row → (table-length : ℕ) → List ℕ → Outcome
-outcome table n s = unless-refused (table-refusal n) (outcome-alone table s)
+outcome profile n s = unless-refused (table-refusal n) (outcome-alone profile s)
 
--- The verdict: number, element, offset, blocks, payments, total cents. Refused: the refusal's three numbers and counts of zero.
--- Accepted: the counts, with number, element and offset 0.
-pub record Answer : Type 0 where
+-- The verdict: accepted, with blocks, payments and total cents; or refused.
+pub data Answer : Type 0 where
+  accepted : (blocks payments cents : ℕ) → Answer
+  refused : Refusal → Answer
+
+unfoldable pub answer : List Row → Outcome → Answer
+answer profile (refused-as r) = refused r
+answer profile (accepted-with root) = accepted (length (blocks profile root)) (length (payments profile root)) (total profile root)
+
+unfoldable pub verdict : List Row → (table-length : ℕ) → List ℕ → Answer
+verdict profile n s = answer profile (outcome profile n s)
+
+-- What is returned. Refused: number, element, offset and counts of zero. Accepted: the counts, with number, element and offset 0.
+pub record Returned : Type 0 where
   pub number : ℕ
   pub element : ℕ
   pub offset : ℕ
@@ -264,15 +282,6 @@ pub record Answer : Type 0 where
   pub payments : ℕ
   pub cents : ℕ
 
-unfoldable pub refused : Refusal → Answer
-refused r = record { number = r .number; element = r .element; offset = r .offset; blocks = 0; payments = 0; cents = 0 }
-
-unfoldable pub accepted : (blocks payments cents : ℕ) → Answer
-accepted b p c = record { number = 0; element = 0; offset = 0; blocks = b; payments = p; cents = c }
-
-unfoldable pub answer : List Row → Outcome → Answer
-answer table (refused-as r) = refused r
-answer table (accepted-with root) = accepted (length (blocks table root)) (length (payments table root)) (total table root)
-
-unfoldable pub verdict : List Row → (table-length : ℕ) → List ℕ → Answer
-verdict table n s = answer table (outcome table n s)
+unfoldable pub returned : Answer → Returned
+returned (accepted b p c) = record { number = 0; element = 0; offset = 0; blocks = b; payments = p; cents = c }
+returned (refused r) = record { number = r .number; element = r .element; offset = r .offset; blocks = 0; payments = 0; cents = 0 }

@@ -1,6 +1,6 @@
 -- The regrouping list, and the answer to a regrouping.
-use Prim.Native.Nat.{ℕ, suc, _+_, _*_, _<_}
-use mathlib.Core.List.{List, [], _∷_, map}
+use Prim.Native.Nat.{ℕ, suc, _+_, _*_, _/_, _%_, _<_}
+use mathlib.Core.List.{List, [], _∷_, _++_, map}
 use mathlib.Core.Option.{Option, none, some}
 use mathlib.Core.Bool.{Bool, true, false, _&&_, not}
 use mathlib.Core.Path.{_≡_}
@@ -14,7 +14,7 @@ use Rattle.paper.specs.Payments.{payments}
 use Rattle.paper.specs.Refusals.{Refusal, Outcome, refused-as, accepted-with, outcome-alone}
 use Rattle.paper.specs.Accepted.{Accepted, All, Distinct}
 use Rattle.paper.specs.Table.{Part, part-of}
-use Rattle.paper.specs.Fields.{Value, values-of, differ-from, field-part}
+use Rattle.paper.specs.Fields.{Value, same-value, values-of, differ-from, field-part}
 
 -- File: `RGL`, 16-bit version 1, 16-bit count, then that many 16-bit ordinals, high byte first; no other byte.
 unfoldable pub add-first : ℕ → Option (List ℕ) → Option (List ℕ)
@@ -35,12 +35,23 @@ unfoldable pub ordinals-of : List ℕ → Option (List ℕ)
 ordinals-of file =
     if same (take 3 file) (bytes "RGL") then elim (numbers-16 (drop 3 file)) [ none ↦ none | some ns ↦ counted ns ] else none
 
+-- the file of some ordinals
+unfoldable pub two-bytes : ℕ → List ℕ
+two-bytes n = n / 256 ∷ n % 256 ∷ []
+
+unfoldable pub all-two-bytes : List ℕ → List ℕ
+all-two-bytes [] = []
+all-two-bytes (n ∷ ns) = two-bytes n ++ all-two-bytes ns
+
+unfoldable pub file-of : (ordinals : List ℕ) → List ℕ
+file-of ordinals = bytes "RGL" ++ all-two-bytes (1 ∷ length ordinals ∷ ordinals)
+
 -- A message's refusal and whose (1 or 2); or number, k and the lowest differing field, all three 0 if accepted.
 pub data Answer : Type 0 where
   message-refused : (whose : ℕ) → Refusal → Answer
   answered : (number k field : ℕ) → Answer
 
--- For each k: 18 ordinal too large, 19 named before, 20 fields differ.
+-- For each k: 18 ordinal too large, 19 named before, 20 fields differ. (There are as many ordinals as payments: 15 and 17 came first.)
 unfoldable pub pairing : (first : List (List Value)) (k : ℕ) (named : List ℕ) (ordinals : List ℕ) (second : List (List Value)) → Answer
 pairing first k named [] second = answered 0 0 0
 pairing first k named (o ∷ os) [] = answered 0 0 0
@@ -58,9 +69,20 @@ of-payments first second file =
       | some ordinals ↦ if eqb (length ordinals) (length first) then pairing first 0 [] ordinals second else answered 17 0 0
     ]
 
-module _ (table : List Row) where
+-- how often a payment, taken as its seventeen fields, stands among payments
+unfoldable pub same-payment : List Value → List Value → Bool
+same-payment [] [] = true
+same-payment [] (w ∷ ws) = false
+same-payment (v ∷ vs) [] = false
+same-payment (v ∷ vs) (w ∷ ws) = same-value v w && same-payment vs ws
+
+unfoldable pub often : List Value → List (List Value) → ℕ
+often p [] = 0
+often p (q ∷ qs) = if same-payment p q then suc (often p qs) else often p qs
+
+module _ (profile : List Row) where
   unfoldable pub all-values : Element → List (List Value)
-  all-values root = map (values-of table) (payments table root)
+  all-values root = map (values-of profile) (payments profile root)
 
   unfoldable pub of-outcomes : (first second : Outcome) (file : List ℕ) → Answer
   of-outcomes (refused-as r) second file = message-refused 1 r
@@ -68,7 +90,7 @@ module _ (table : List Row) where
   of-outcomes (accepted-with t) (accepted-with u) file = of-payments (all-values t) (all-values u) file
 
   unfoldable pub regrouping : (first second file : List ℕ) → Answer
-  regrouping first second file = of-outcomes (outcome-alone table first) (outcome-alone table second) file
+  regrouping first second file = of-outcomes (outcome-alone profile first) (outcome-alone profile second) file
 
   -- For 20 that field's text as the second message has it, otherwise the empty part at 0 of the second.
   unfoldable pub differing-part : (first second file : List ℕ) → Part
@@ -76,19 +98,19 @@ module _ (table : List Row) where
       elim (regrouping first second file) [
         | message-refused whose r ↦ part-of none
         | answered number k field ↦
-            if eqb number 20 then field-part table (outcome-alone table second) k field else part-of none
+            if eqb number 20 then field-part profile (outcome-alone profile second) k field else part-of none
       ]
 
   -- A regrouping is accepted, said plainly (demand 3): both messages are accepted and have equally many payments; the list is well formed and names every
   -- payment of the first message once, in the order of the second; each payment so paired is equal in all seventeen fields.
   pub record Regroups (first second file : List ℕ) : Type 0 where
-    pub first-accepted : Accepted table first
-    pub second-accepted : Accepted table second
+    pub first-accepted : Accepted profile first
+    pub second-accepted : Accepted profile second
     pub ordinals : List ℕ
     pub well-formed : ordinals-of file ≡ some ordinals
-    pub equally-many : length (payments table (first-accepted .root)) ≡ length (payments table (second-accepted .root))
-    pub names-each : length ordinals ≡ length (payments table (first-accepted .root))
-    pub within : All (λ o. o < length (payments table (first-accepted .root))) ordinals
+    pub equally-many : length (payments profile (first-accepted .root)) ≡ length (payments profile (second-accepted .root))
+    pub names-each : length ordinals ≡ length (payments profile (first-accepted .root))
+    pub within : All (λ o. o < length (payments profile (first-accepted .root))) ordinals
     pub once : Distinct ordinals
     pub paired : (k : ℕ) → k < length ordinals
         → getD (all-values (first-accepted .root)) (getD ordinals k 0) [] ≡ getD (all-values (second-accepted .root)) k []

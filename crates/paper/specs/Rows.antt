@@ -120,7 +120,7 @@ head-of (holding-elements h ts) = h
 
 -- An element conforms to a row, over any table of rows: a leaf holds text that is right for it, a group holds children of rows that are arranged as
 -- it says, each named as its row and conforming to it.
-module _ (table : List Row) (Right : (parent : ℕ) → Row → Head → List ℕ → Type 0) where
+module _ (profile : List Row) (Right : (parent : ℕ) → Row → Head → List ℕ → Type 0) where
   unfoldable mutual
     pub Conforms : Element → (parent : ℕ) → Row → Type 0
     Conforms (holding-text h w) parent r =
@@ -134,5 +134,5 @@ module _ (table : List Row) (Right : (parent : ℕ) → Row → Head → List �
         elim ks [
           | [] ↦ ⊥
           | k ∷ others ↦
-              (head-of t .name ≡ row-of table parent k .name) × Conforms t parent (row-of table parent k) × Conform ts parent others
+              (head-of t .name ≡ row-of profile parent k .name) × Conforms t parent (row-of profile parent k) × Conform ts parent others
         ]

@@ -23,19 +23,19 @@ numbers-of-a-payment = 16
 unfoldable pub two-numbers : Part → List ℕ
 two-numbers p = p .start ∷ p .size ∷ []
 
-module _ (table : List Row) where
+module _ (profile : List Row) where
   -- Block from 0; start and length of end-to-end id, creditor IBAN, creditor name, ultimate debtor's name, contents of row 16, debtor IBAN (the last three
   -- as inherited); whole euros; cents 0 to 99; offset of the payment's `<`.
   unfoldable pub numbers-of : Payment → List ℕ
   numbers-of p =
       (p .block-number ∷ []) ++
-      (two-numbers (part-of (in-payment table (38 ∷ 40 ∷ []) p)) ++
-      (two-numbers (part-of (in-payment table (45 ∷ 27 ∷ 28 ∷ []) p)) ++
-      (two-numbers (part-of (in-payment table (44 ∷ 25 ∷ []) p)) ++
-      (two-numbers (part-of (inherited table (34 ∷ 35 ∷ []) p)) ++
-      (two-numbers (part-of (inherited table (16 ∷ []) p)) ++
-      (two-numbers (part-of (in-block table (26 ∷ 27 ∷ 28 ∷ []) p)) ++
-      (amount-of table (p .own) / 100 ∷ amount-of table (p .own) % 100 ∷ head-of (p .own) .at ∷ [])))))))
+      (two-numbers (part-of (in-payment profile (38 ∷ 40 ∷ []) p)) ++
+      (two-numbers (part-of (in-payment profile (45 ∷ 27 ∷ 28 ∷ []) p)) ++
+      (two-numbers (part-of (in-payment profile (44 ∷ 25 ∷ []) p)) ++
+      (two-numbers (part-of (inherited profile (34 ∷ 35 ∷ []) p)) ++
+      (two-numbers (part-of (inherited profile (16 ∷ []) p)) ++
+      (two-numbers (part-of (in-block profile (26 ∷ 27 ∷ 28 ∷ []) p)) ++
+      (amount-of profile (p .own) / 100 ∷ amount-of profile (p .own) % 100 ∷ head-of (p .own) .at ∷ [])))))))
 
   unfoldable pub all-numbers : List Payment → List ℕ
   all-numbers [] = []
@@ -44,4 +44,4 @@ module _ (table : List Row) where
   -- All later numbers keep their old values; after a refusal all numbers do.
   unfoldable pub table-after : Outcome → (old : List ℕ) → List ℕ
   table-after (refused-as r) old = old
-  table-after (accepted-with root) old = all-numbers (payments table root) ++ drop (numbers-of-a-payment * length (payments table root)) old
+  table-after (accepted-with root) old = all-numbers (payments profile root) ++ drop (numbers-of-a-payment * length (payments profile root)) old

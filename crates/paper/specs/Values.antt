@@ -1,4 +1,4 @@
--- What a value may be: a rule for each kind, over the text alone.
+-- What a value may be: a rule for each kind, over the text alone. (Length and characters are refusals 6 and 7, and are asked first.)
 use Prim.Native.Nat.{ℕ, suc, _+_, _*_, _-_, _%_}
 use Prim.Native.Char.{Char, code}
 use Prim.Native.String.{String, [] as []ˢ, _∷_ as _∷ˢ_}
@@ -132,7 +132,8 @@ iban w =
     shaped "AA00" (take 4 w) && lies-from 2 98 (number (part 2 2 w)) && every capital-or-digit (drop 4 w) && of-a-country countries w &&
     eqb (read-after 0 (moved w) % 97) 1
 
--- What row a leaf is of decides its rule. Row 19 is `SEPA`, and under row 53 `SCOR`; row 42 has its currency. Any other row is free.
+-- The row of a leaf decides its rule; the row above it where it matters: row 19 is `SEPA`, and under row 53 `SCOR`. Row 42 has its currency. Any other row
+-- is free.
 unfoldable pub allowed : (parent row : ℕ) (currency text : List ℕ) → Bool
 allowed parent row currency w =
     if among row (4 ∷ 11 ∷ 39 ∷ 40 ∷ []) then id w else

@@ -19,6 +19,12 @@ pub enum Fault {
     SumDiffers { element: usize, offset: usize },
 }
 
+// What a stage of checks finds.
+pub enum Finding {
+    Nothing,
+    Refused(Fault),
+}
+
 // What the reader says of a message.
 pub enum Verdict {
     Accepted {

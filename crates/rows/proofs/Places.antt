@@ -119,14 +119,14 @@ module _ (rows places : List ℕ) where
     missing-ends h = rw (between-none p q h)
 
 -- the entry that takes a place
-module _ {table : List Row} {names rows places : List ℕ} {parent p : ℕ} (name : List ℕ) (r : Resolved table names rows places parent p) where
-  named-by : (k e : ℕ) {t : Bool} → row-of table parent k ≡ row-at names rows places e → same name (name-at names rows e) ≡ t
-      → same name (row-of table parent k .name) ≡ t
+module _ {profile : List Row} {names rows places : List ℕ} {parent p : ℕ} (name : List ℕ) (r : Resolved profile names rows places parent p) where
+  named-by : (k e : ℕ) {t : Bool} → row-of profile parent k ≡ row-at names rows places e → same name (name-at names rows e) ≡ t
+      → same name (row-of profile parent k .name) ≡ t
   unfolding row-at
   named-by k e q s = rw q s
 
-  takes-known : (e : ℕ) {k : ℕ} → k ≡ of-entry rows e 0 → row-of table parent k ≡ row-at names rows places e → same name (name-at names rows e) ≡ true
-      → Known table names rows places parent name e
+  takes-known : (e : ℕ) {k : ℕ} → k ≡ of-entry rows e 0 → row-of profile parent k ≡ row-at names rows places e → same name (name-at names rows e) ≡ true
+      → Known profile names rows places parent name e
   takes-known e k q s = record { row-is = rw k at q; name-is = same-says name (name-at names rows e) s }
 
   kind-begins : (kind k l : ℕ) → (ks : List ℕ) × (rows-at (of-kind kind k l) ≡ k ∷ ks)
@@ -137,24 +137,24 @@ module _ {table : List Row} {names rows places : List ℕ} {parent p : ℕ} (nam
       go false e = (l ∷ [], kind-choice kind k l (ltb-false kind 3 e))
 
   first-takes : same name (name-at names rows (of-place places p 1)) ≡ true
-      → named-in table parent (rows-at (place-at rows places p)) name ≡ some (first-of rows places p)
+      → named-in profile parent (rows-at (place-at rows places p)) name ≡ some (first-of rows places p)
   unfolding named-in place-at
   first-takes s =
       let b = kind-begins (of-place places p 0) (first-of rows places p) (second-of rows places p) in
       rw (b .1, named-by (first-of rows places p) (of-place places p 1) (r .first-is) s)
 
-  pub by-first : {e : ℕ} → e ≡ of-place places p 1 → same name (name-at names rows e) ≡ true → Takes table names rows places parent name p (taker.Entry e)
+  pub by-first : {e : ℕ} → e ≡ of-place places p 1 → same name (name-at names rows e) ≡ true → Takes profile names rows places parent name p (taker.Entry e)
   unfolding Takes
   by-first {e} q s = rw q (let s : same name (name-at names rows (of-place places p 1)) ≡ true = rw q at s in (first-takes s, takes-known (of-place places p 1) refl (r .first-is) s))
 
-  pub by-nobody : {e : ℕ} → e ≡ of-place places p 1 → same name (name-at names rows e) ≡ false → of-place places p 0 < 3 → Takes table names rows places parent name p taker.Nobody
+  pub by-nobody : {e : ℕ} → e ≡ of-place places p 1 → same name (name-at names rows e) ≡ false → of-place places p 0 < 3 → Takes profile names rows places parent name p taker.Nobody
   unfolding Takes named-in place-at
   by-nobody {e} q s h =
       let s : same name (name-at names rows (of-place places p 1)) ≡ false = rw q at s in
       rw (kind-single (of-place places p 0) (first-of rows places p) (second-of rows places p) h, named-by (first-of rows places p) (of-place places p 1) (r .first-is) s)
 
   module _ {d : ℕ} (q : d ≡ of-place places p 1) (s : same name (name-at names rows d) ≡ false) (h : 3 ≤ of-place places p 0) where
-    pub by-second : {e : ℕ} → e ≡ of-place places p 2 → same name (name-at names rows e) ≡ true → Takes table names rows places parent name p (taker.Entry e)
+    pub by-second : {e : ℕ} → e ≡ of-place places p 2 → same name (name-at names rows e) ≡ true → Takes profile names rows places parent name p (taker.Entry e)
     unfolding Takes named-in place-at
     by-second {e} q′ s′ =
         let s : same name (name-at names rows (of-place places p 1)) ≡ false = rw q at s in
@@ -166,7 +166,7 @@ module _ {table : List Row} {names rows places : List ℕ} {parent p : ℕ} (nam
           takes-known (of-place places p 2) refl (r .second-is) s′,
         )
 
-    pub by-neither : {e : ℕ} → e ≡ of-place places p 2 → same name (name-at names rows e) ≡ false → Takes table names rows places parent name p taker.Nobody
+    pub by-neither : {e : ℕ} → e ≡ of-place places p 2 → same name (name-at names rows e) ≡ false → Takes profile names rows places parent name p taker.Nobody
     unfolding Takes named-in place-at
     by-neither {e} q′ s′ =
         let s : same name (name-at names rows (of-place places p 1)) ≡ false = rw q at s in
@@ -203,62 +203,62 @@ behind-past (o ∷ ps) p q = go (required o) (behind-past ps p q)
     go false e = e
 
 -- the search for a child's place, place by place
-module _ (table : List Row) (parent : ℕ) (name : List ℕ) where
-  seek-none : (p : Place) (ps : List Place) → named-in table parent (rows-at p) name ≡ none → seek table parent (p ∷ ps) name ≡ past p (seek table parent ps name)
+module _ (profile : List Row) (parent : ℕ) (name : List ℕ) where
+  seek-none : (p : Place) (ps : List Place) → named-in profile parent (rows-at p) name ≡ none → seek profile parent (p ∷ ps) name ≡ past p (seek profile parent ps name)
   unfolding seek
   seek-none p ps e = rw (e, seek)
 
-  seek-some : (p : Place) (ps : List Place) (k : ℕ) → named-in table parent (rows-at p) name ≡ some k → seek table parent (p ∷ ps) name ≡ found k (left-of p ++ ps)
+  seek-some : (p : Place) (ps : List Place) (k : ℕ) → named-in profile parent (rows-at p) name ≡ some k → seek profile parent (p ∷ ps) name ≡ found k (left-of p ++ ps)
   unfolding seek
   seek-some p ps k e = rw (e, seek)
 
-  seek-nothing : (o : Option ℕ) → behind o (seek table parent [] name) ≡ never
+  seek-nothing : (o : Option ℕ) → behind o (seek profile parent [] name) ≡ never
   unfolding seek behind
   seek-nothing none = refl
   seek-nothing (some k) = refl
 
-module _ (table : List Row) (rows places : List ℕ) (parent : ℕ) (name : List ℕ) where
+module _ (profile : List Row) (rows places : List ℕ) (parent : ℕ) (name : List ℕ) where
   -- how far the search has come: the places from `from` up to p don't take the name
   abbrev pub SoFar : (from to p : ℕ) → Type 0
   SoFar from to p =
-      seek table parent (places-between rows places from to) name ≡
-      behind (missing (places-between rows places from p)) (seek table parent (places-between rows places p to) name)
+      seek profile parent (places-between rows places from to) name ≡
+      behind (missing (places-between rows places from p)) (seek profile parent (places-between rows places p to) name)
 
   pub find-starts : (from to : ℕ) → SoFar from to from
   unfolding missing behind
   find-starts from to = rw (between-none rows places from from (omega arith))
 
   module _ (names : List ℕ) (from to p : ℕ) where
-    pub find-goes : from ≤ p → p < to → SoFar from to p → Takes table names rows places parent name p taker.Nobody → SoFar from to (p + 1)
+    pub find-goes : from ≤ p → p < to → SoFar from to p → Takes profile names rows places parent name p taker.Nobody → SoFar from to (p + 1)
     unfolding Takes
     find-goes l h e t =
-        let one = ap (λ (ps : List Place). seek table parent ps name) (between-more rows places p to h) ∙ seek-none table parent name (place-at rows places p) (places-between rows places (p + 1) to) t in
+        let one = ap (λ (ps : List Place). seek profile parent ps name) (between-more rows places p to h) ∙ seek-none profile parent name (place-at rows places p) (places-between rows places (p + 1) to) t in
         e ∙ ap (λ (q : Sought). behind (missing (places-between rows places from p)) q) one ∙
-        behind-past (places-between rows places from p) (place-at rows places p) (seek table parent (places-between rows places (p + 1) to) name) ∙
-        ap (λ (ps : List Place). behind (missing ps) (seek table parent (places-between rows places (p + 1) to) name)) (sym (between-end rows places from p l))
+        behind-past (places-between rows places from p) (place-at rows places p) (seek profile parent (places-between rows places (p + 1) to) name) ∙
+        ap (λ (ps : List Place). behind (missing ps) (seek profile parent (places-between rows places (p + 1) to) name)) (sym (between-end rows places from p l))
 
-    pub find-stops : (d : ℕ) → from ≤ p → p < to → SoFar from to p → Takes table names rows places parent name p (taker.Entry d)
-        → StandsAt table names rows places parent name from to (standing.At p d)
+    pub find-stops : (d : ℕ) → from ≤ p → p < to → SoFar from to p → Takes profile names rows places parent name p (taker.Entry d)
+        → StandsAt profile names rows places parent name from to (standing.At p d)
     unfolding Takes StandsAt
     find-stops d l h e t =
-        let one = ap (λ (ps : List Place). seek table parent ps name) (between-more rows places p to h) ∙
-        seek-some table parent name (place-at rows places p) (places-between rows places (p + 1) to) (of-entry rows d 0) (t .0) in
+        let one = ap (λ (ps : List Place). seek profile parent ps name) (between-more rows places p to h) ∙
+        seek-some profile parent name (place-at rows places p) (places-between rows places (p + 1) to) (of-entry rows d 0) (t .0) in
         (l, h, t .1, e ∙ ap (λ (q : Sought). behind (missing (places-between rows places from p)) q) one)
 
-    pub find-ends : to ≤ p → SoFar from to p → StandsAt table names rows places parent name from to standing.Nowhere
+    pub find-ends : to ≤ p → SoFar from to p → StandsAt profile names rows places parent name from to standing.Nowhere
     unfolding StandsAt
-    find-ends h e = e ∙ ap (λ (ps : List Place). behind (missing (places-between rows places from p)) (seek table parent ps name)) (between-none rows places p to h) ∙
-        seek-nothing table parent name (missing (places-between rows places from p))
+    find-ends h e = e ∙ ap (λ (ps : List Place). behind (missing (places-between rows places from p)) (seek profile parent ps name)) (between-none rows places p to h) ∙
+        seek-nothing profile parent name (missing (places-between rows places from p))
 
 -- what comes of a child whose place is known
-module _ (table : List Row) (names rows places : List ℕ) (parent : ℕ) (name : List ℕ) (from to : ℕ) where
-  pub seek-never : {r : Standing} → StandsAt table names rows places parent name from to r → r ≡ standing.Nowhere
-      → Seeks table names rows places parent name (places-between rows places from to) from to sought.Never
+module _ (profile : List Row) (names rows places : List ℕ) (parent : ℕ) (name : List ℕ) (from to : ℕ) where
+  pub seek-never : {r : Standing} → StandsAt profile names rows places parent name from to r → r ≡ standing.Nowhere
+      → Seeks profile names rows places parent name (places-between rows places from to) from to sought.Never
   unfolding StandsAt Seeks
   seek-never s e = rw e at s
 
-  module _ {r : Standing} {p d : ℕ} (s : StandsAt table names rows places parent name from to r) (e : r ≡ standing.At p d) where
-    at : StandsAt table names rows places parent name from to (standing.At p d)
+  module _ {r : Standing} {p d : ℕ} (s : StandsAt profile names rows places parent name from to r) (e : r ≡ standing.At p d) where
+    at : StandsAt profile names rows places parent name from to (standing.At p d)
     at = rw e at s
 
     pub at-inside : p < to
@@ -266,20 +266,20 @@ module _ (table : List Row) (names rows places : List ℕ) (parent : ℕ) (name 
     at-inside = at .1
 
     pub seek-early : {l : Lacks} {k : ℕ} → lacking l ≡ missing (places-between rows places from p) → l ≡ lacks.Row k
-        → Seeks table names rows places parent name (places-between rows places from to) from to (sought.Early k)
+        → Seeks profile names rows places parent name (places-between rows places from to) from to (sought.Early k)
     unfolding StandsAt Seeks lacking behind
     seek-early {k = k} m q =
         let found-at : some k ≡ missing (places-between rows places from p) = rw q at m in
         at .3 ∙ ap (λ (o : Option ℕ). behind o (found (of-entry rows d 0) (left-of (place-at rows places p) ++ places-between rows places (p + 1) to))) (sym found-at)
 
     module _ {l : Lacks} (m : lacking l ≡ missing (places-between rows places from p)) (q : l ≡ lacks.Nothing) where
-      seek-found : seek table parent (places-between rows places from to) name ≡ found (of-entry rows d 0) (left-of (place-at rows places p) ++ places-between rows places (p + 1) to)
+      seek-found : seek profile parent (places-between rows places from to) name ≡ found (of-entry rows d 0) (left-of (place-at rows places p) ++ places-between rows places (p + 1) to)
       unfolding StandsAt lacking behind
       seek-found =
           let found-at : none ≡ missing (places-between rows places from p) = rw q at m in
           at .3 ∙ ap (λ (o : Option ℕ). behind o (found (of-entry rows d 0) (left-of (place-at rows places p) ++ places-between rows places (p + 1) to))) (sym found-at)
 
-      pub seek-plus : of-place places p 0 ≡ 2 → Seeks table names rows places parent name (places-between rows places from to) from to (sought.Found d p true)
+      pub seek-plus : of-place places p 0 ≡ 2 → Seeks profile names rows places parent name (places-between rows places from to) from to (sought.Found d p true)
       unfolding StandsAt Seeks places-left place-at
       seek-plus k = (
         at .0,
@@ -289,7 +289,7 @@ module _ (table : List Row) (names rows places : List ℕ) (parent : ℕ) (name 
             (kind-plus (of-place places p 0) (first-of rows places p) (second-of rows places p) k),
       )
 
-      pub seek-once : (of-place places p 0 ≡ 2 → ⊥) → Seeks table names rows places parent name (places-between rows places from to) from to (sought.Found d (p + 1) false)
+      pub seek-once : (of-place places p 0 ≡ 2 → ⊥) → Seeks profile names rows places parent name (places-between rows places from to) from to (sought.Found d (p + 1) false)
       unfolding StandsAt Seeks places-left place-at
       seek-once k = (
         omega (arith, at .0),
@@ -301,24 +301,24 @@ module _ (table : List Row) (names rows places : List ℕ) (parent : ℕ) (name 
 
   -- one of a `plus` may have been seen
   abbrev pub Sought-where : Bool → Sought′ → Type 0
-  Sought-where seen r = Seeks table names rows places parent name (places-left rows places from seen to) from to r
+  Sought-where seen r = Seeks profile names rows places parent name (places-left rows places from seen to) from to r
 
-  pub seek-fresh : (r : Sought′) {seen : Bool} → seen ≡ false → Seeks table names rows places parent name (places-between rows places from to) from to r → Sought-where seen r
+  pub seek-fresh : (r : Sought′) {seen : Bool} → seen ≡ false → Seeks profile names rows places parent name (places-between rows places from to) from to r → Sought-where seen r
   unfolding places-left
   seek-fresh r f s = rw f s
 
   pub seek-seen : (r : Sought′) {seen : Bool} → seen ≡ true → Sought-where true r → Sought-where seen r
   seek-seen r f s = rw f s
 
-  module _ (f : Resolved table names rows places parent from) (h : from < to) where
+  module _ (f : Resolved profile names rows places parent from) (h : from < to) where
     pub seek-again : (d : ℕ) → d ≡ of-place places from 1 → same name (name-at names rows d) ≡ true → Sought-where true (sought.Found d from true)
     unfolding Seeks places-left named-in rows-at left-of
     seek-again d q s =
         let t : same name (name-at names rows (of-place places from 1)) ≡ true = rw q at s in
         let known = takes-known name f (of-place places from 1) refl (f .first-is) t in
-        let n : named-in table parent (rows-at (further (first-of rows places from))) name ≡ some (first-of rows places from) =
+        let n : named-in profile parent (rows-at (further (first-of rows places from))) name ≡ some (first-of rows places from) =
         rw (named-by name f (first-of rows places from) (of-place places from 1) (f .first-is) t) in
-        (omega arith, λ _. h, rw q known, rw q (seek-some table parent name (further (first-of rows places from)) (places-between rows places (from + 1) to) (first-of rows places from) n))
+        (omega arith, λ _. h, rw q known, rw q (seek-some profile parent name (further (first-of rows places from)) (places-between rows places (from + 1) to) (first-of rows places from) n))
 
     further-past : (k : ℕ) (q : Sought) → past (further k) q ≡ q
     unfolding past required
@@ -327,22 +327,22 @@ module _ (table : List Row) (names rows places : List ℕ) (parent : ℕ) (name 
     further-past k (found j left) = refl
 
     pub seek-on : (d : ℕ) → d ≡ of-place places from 1 → same name (name-at names rows d) ≡ false
-        → (r : Sought′) → Seeks table names rows places parent name (places-between rows places (from + 1) to) (from + 1) to r → Sought-where true r
+        → (r : Sought′) → Seeks profile names rows places parent name (places-between rows places (from + 1) to) (from + 1) to r → Sought-where true r
     unfolding Seeks places-left named-in rows-at
     seek-on d q s r g = go r g
       where
         t : same name (name-at names rows (of-place places from 1)) ≡ false
         t = rw q at s
 
-        n : named-in table parent (rows-at (further (first-of rows places from))) name ≡ none
+        n : named-in profile parent (rows-at (further (first-of rows places from))) name ≡ none
         n = rw (named-by name f (first-of rows places from) (of-place places from 1) (f .first-is) t)
 
-        skip : seek table parent (places-left rows places from true to) name ≡ seek table parent (places-between rows places (from + 1) to) name
+        skip : seek profile parent (places-left rows places from true to) name ≡ seek profile parent (places-between rows places (from + 1) to) name
         skip =
-            seek-none table parent name (further (first-of rows places from)) (places-between rows places (from + 1) to) n ∙
-            further-past (first-of rows places from) (seek table parent (places-between rows places (from + 1) to) name)
+            seek-none profile parent name (further (first-of rows places from)) (places-between rows places (from + 1) to) n ∙
+            further-past (first-of rows places from) (seek profile parent (places-between rows places (from + 1) to) name)
 
-        go : (r : Sought′) → Seeks table names rows places parent name (places-between rows places (from + 1) to) (from + 1) to r → Sought-where true r
+        go : (r : Sought′) → Seeks profile names rows places parent name (places-between rows places (from + 1) to) (from + 1) to r → Sought-where true r
         go sought.Never g = skip ∙ g
         go (sought.Early k) g = skip ∙ g
         go (sought.Found e p m) g = (omega (arith, g .0), g .1, g .2, skip ∙ g .3)

@@ -1,4 +1,4 @@
--- Numbers stand for a table of rows where a computed test says so; and document 01's do.
+-- Numbers stand for a profile where a computed test says so; and document 01's do.
 use Prim.Native.Nat.{ℕ, zero, suc, _+_, _*_, _-_, _<_, _≤_}
 use mathlib.Core.List.{List, [], _∷_, map}
 use mathlib.Core.Bool.{Bool, true, false}
@@ -11,6 +11,12 @@ use lib.ListN.{length, getD, List·getD-eq-default}
 use borrow.Author.Tests.{eq-eqb, eqb-true, eqb-false, ltb-true, ltb-false}
 use Rattle.paper.specs.Bytes.{if_then_else_, bytes}
 use Rattle.paper.specs.Rows.{Row, row-of, rows, leaf, group, group-under}
+use Rattle.paper.specs.Form.{Element}
+use Rattle.paper.specs.Refusals.{walk, rows-refusal, values-refusal}
+use Rattle.paper.specs.Answers.{refusal-found}
+use Rattle.paper.specs.declared.Finding.{Finding}
+use Rattle.tree.specs.Laid.{Laid}
+use Rattle.rows.specs.Walk.{judgement, refusal-by, Walks}
 use Rattle.rows.specs.Numbers.{of-entry, of-place, first-of, second-of, of-kind, place-at, places-from, places-between, holds-at, name-at, row-at, Stands}
 
 -- two functions that agree below n, by one equation of lists
@@ -33,8 +39,8 @@ agree {A} f g (suc n) e i h = go (eqb i n) refl (λ below. agree f g n tail i be
     go true p below = let q : i ≡ n = eqb-true i n p in rw q head
     go false p below = below (omega (arith, eqb-false i n p))
 
--- The test, over any table and any numbers, of so many entries.
-module _ (table : List Row) (names numbers places : List ℕ) (entries : ℕ) where
+-- The test, over any profile and any numbers, of so many entries.
+module _ (profile : List Row) (names numbers places : List ℕ) (entries : ℕ) where
   -- where the places of entry e start, and how many there are
   abbrev start : ℕ → ℕ
   start e = of-entry numbers e 5
@@ -42,10 +48,10 @@ module _ (table : List Row) (names numbers places : List ℕ) (entries : ℕ) wh
   abbrev many : ℕ → ℕ
   many e = of-entry numbers e 6 - of-entry numbers e 5
 
-  -- the first entry at a place of entry e, or the second: as the table has that row, and as the numbers have it
+  -- the first entry at a place of entry e, or the second: as the profile has that row, and as the numbers have it
   module _ (k : ℕ) where
     abbrev in-table : (e p : ℕ) → Row
-    in-table e p = row-of table (of-entry numbers e 0) (of-entry numbers (of-place places p k) 0)
+    in-table e p = row-of profile (of-entry numbers e 0) (of-entry numbers (of-place places p k) 0)
 
     abbrev in-numbers : ℕ → Row
     in-numbers p = row-at names numbers places (of-place places p k)
@@ -91,12 +97,12 @@ module _ (table : List Row) (names numbers places : List ℕ) (entries : ℕ) wh
 
   record Tested : Type 0 where
     few : length numbers ≤ entries * 7
-    root-agrees : row-at names numbers places 0 ≡ row-of table 0 1
+    root-agrees : row-at names numbers places 0 ≡ row-of profile 0 1
     first-agree : Rows-agree 1
     second-agree : Rows-agree 2
     names-agree : Amounts-agree
 
-  by-test : Tested → Stands table names numbers places
+  by-test : Tested → Stands profile names numbers places
   by-test t =
       record {
         root-is = t .root-agrees;
@@ -207,3 +213,18 @@ tested = record { few = omega arith; root-agrees = refl; first-agree = refl; sec
 
 pub document-01 : Stands rows row-names row-numbers row-places
 document-01 = by-test rows row-names row-numbers row-places 56 tested
+
+-- the walk over document 01's rows from the root
+from-root : (judging : Bool) (root : Element) → walk rows (judgement judging) root 0 (row-of rows 0 1) ≡ refusal-by judging rows root
+unfolding judgement refusal-by rows-refusal values-refusal
+from-root true root = refl
+from-root false root = refl
+
+not-an-amount : {A : Type 0} → of-entry row-numbers 0 0 ≡ 42 → A
+unfolding row-numbers
+not-an-amount e = absurd (omega arith)
+
+pub whole-walk : (s tree : List ℕ) (judging : Bool) (f : Finding) → Walks s tree row-names row-numbers row-places judging 0 0 0 f
+    → (root : Element) (next : ℕ) → Laid s tree root 0 next → refusal-found f ≡ refusal-by judging rows root
+whole-walk s tree judging f w root next l =
+    w rows document-01 root next l not-an-amount ∙ ap (λ (r : Row). walk rows (judgement judging) root 0 r) (document-01 .root-is) ∙ from-root judging root

@@ -1,3 +1,3 @@
--- The table of rows as numbers, and what each step of the walk answers.
+-- A profile as numbers, and what each step of the walk answers.
 pub mod Numbers
 pub mod Walk

@@ -1,4 +1,4 @@
--- A table of rows as numbers, so that code never searches it. An entry is a row with its place in these numbers, which has seven of them: the row's number; the
+-- A profile, a table of rows, as numbers, so that code never searches it. An entry is a row with its place in these numbers, which has seven of them: the row's number; the
 -- row that it is under, or 0; where its name starts and ends in one text of names; its longest length, 0 for a group; where its places start and end.
 -- A place has three: its kind (0 `one`, 1 `opt`, 2 `plus`, 3 `either`) and the two entries that may take it, one of them twice where there is no choice.
 use Prim.Native.Nat.{ℕ, zero, suc, _+_, _*_, _-_, _≤_, _<_}
@@ -58,10 +58,10 @@ row-at names rows places e =
 
 -- The numbers stand for a table: entry 0 is row 1; the entries at the places of an entry's row are that table's rows under it; and row 42 has its name, by which
 -- an element of it is known to have a currency.
-pub record Stands (table : List Row) (names rows places : List ℕ) : Type 0 where
-  pub root-is : row-at names rows places 0 ≡ row-of table 0 1
+pub record Stands (profile : List Row) (names rows places : List ℕ) : Type 0 where
+  pub root-is : row-at names rows places 0 ≡ row-of profile 0 1
   pub first-is : (e p : ℕ) → of-entry rows e 5 ≤ p → p < of-entry rows e 6
-      → row-of table (of-entry rows e 0) (first-of rows places p) ≡ row-at names rows places (of-place places p 1)
+      → row-of profile (of-entry rows e 0) (first-of rows places p) ≡ row-at names rows places (of-place places p 1)
   pub second-is : (e p : ℕ) → of-entry rows e 5 ≤ p → p < of-entry rows e 6
-      → row-of table (of-entry rows e 0) (second-of rows places p) ≡ row-at names rows places (of-place places p 2)
+      → row-of profile (of-entry rows e 0) (second-of rows places p) ≡ row-at names rows places (of-place places p 2)
   pub amount-is : (e : ℕ) → of-entry rows e 0 ≡ 42 → name-at names rows e ≡ bytes "InstdAmt"

@@ -1,8 +1,10 @@
-// The walk of refusals 3 and 4 over the laid-out tree of a message, and the same walk with the judgement of 6 to 8 at the leaves. The rows are a table of
-// numbers (specs/Numbers.antt); every function but `check` is for any such table.
-mod table;
+// The walk of refusals 3 and 4 over the laid-out tree of a message, and the same walk with the judgement of 6 to 8 at the leaves. The rows are a profile in
+// numbers (specs/Numbers.antt); every function but `check` is for any such profile.
+mod profile;
 
 use paper::Fault;
+use paper::Finding;
+use values::Judgement;
 ghost use mathlib.Core.Path.{_≡_};
 ghost use mathlib.Core.Bool.{Bool, true};
 ghost use mathlib.Core.List.{List};
@@ -11,16 +13,11 @@ ghost use lib.ListN.{length, getD};
 ghost use Rattle.paper.specs.Bytes.{same, white};
 ghost use Rattle.paper.specs.Form.{Head, Element};
 ghost use Rattle.paper.specs.Rows.{Row, rows};
-ghost use Rattle.paper.specs.Refusals.{missing, ends, only-white, first-not};
+ghost use Rattle.paper.specs.Refusals.{missing, ends, refuse, only-white, first-not};
+ghost use Rattle.paper.specs.Answers.{refusal-found};
 ghost use Rattle.tree.specs.Laid.{between, Entry, Laid};
 ghost use Rattle.rows.specs.Numbers.{of-entry, of-place, places-between, places-left, name-at};
-ghost use Rattle.rows.specs.Walk.{refusal-in, refusal-by, lacking, ResolvedBetween, Resolved, Takes, StandsAt, Seeks, Walks, WalksAll};
-
-// What a walk finds.
-pub enum Finding {
-    Nothing,
-    Refused(Fault),
-}
+ghost use Rattle.rows.specs.Walk.{refusal-by, lacking, Judged, ResolvedBetween, Resolved, Takes, StandsAt, Seeks, Walks, WalksAll};
 
 // The first row that is missing.
 enum Lacks {
@@ -57,7 +54,7 @@ fn wide(x: u16) -> usize
     x as usize
 }
 
-// A number of a table, 0 past its end.
+// A number of a list of them, 0 past its end.
 fn number(t: &[u16], k: usize) -> u16
     ensures { λ r. ⌜ r ≡ getD (now (t .entry)) k 0 ⌝ }
 {
@@ -129,8 +126,8 @@ fn taken_by(
     i: usize,
     p: u16,
 ) -> Taker
-    ensures { λ r. ⌜ ((table : List Row) (parent : ℕ) (h : Head) (next : ℕ) → Resolved table (now (names .entry)) (now (rows .entry)) (now (places .entry)) parent p
-        → Entry (now (s .entry)) (now (tree .entry)) i h next → Takes table (now (names .entry)) (now (rows .entry)) (now (places .entry)) parent (h .name) p r) ⌝ }
+    ensures { λ r. ⌜ ((profile : List Row) (parent : ℕ) (h : Head) (next : ℕ) → Resolved profile (now (names .entry)) (now (rows .entry)) (now (places .entry)) parent p
+        → Entry (now (s .entry)) (now (tree .entry)) i h next → Takes profile (now (names .entry)) (now (rows .entry)) (now (places .entry)) parent (h .name) p r) ⌝ }
 {
     let first = of_place(places, p, 1);
     if named(s, tree, names, rows, i, first) {
@@ -157,8 +154,8 @@ fn find(
     from: u16,
     to: u16,
 ) -> Standing
-    ensures { λ r. ⌜ ((table : List Row) (parent : ℕ) (h : Head) (next : ℕ) → ResolvedBetween table (now (names .entry)) (now (rows .entry)) (now (places .entry)) parent from to
-        → Entry (now (s .entry)) (now (tree .entry)) i h next → StandsAt table (now (names .entry)) (now (rows .entry)) (now (places .entry)) parent (h .name) from to r) ⌝ }
+    ensures { λ r. ⌜ ((profile : List Row) (parent : ℕ) (h : Head) (next : ℕ) → ResolvedBetween profile (now (names .entry)) (now (rows .entry)) (now (places .entry)) parent from to
+        → Entry (now (s .entry)) (now (tree .entry)) i h next → StandsAt profile (now (names .entry)) (now (rows .entry)) (now (places .entry)) parent (h .name) from to r) ⌝ }
 {
     let mut p = from;
     while p < to {
@@ -182,9 +179,9 @@ fn seek(
     from: u16,
     to: u16,
 ) -> Sought
-    ensures { λ r. ⌜ ((table : List Row) (parent : ℕ) (h : Head) (next : ℕ) → ResolvedBetween table (now (names .entry)) (now (rows .entry)) (now (places .entry)) parent from to
+    ensures { λ r. ⌜ ((profile : List Row) (parent : ℕ) (h : Head) (next : ℕ) → ResolvedBetween profile (now (names .entry)) (now (rows .entry)) (now (places .entry)) parent from to
         → Entry (now (s .entry)) (now (tree .entry)) i h next
-        → Seeks table (now (names .entry)) (now (rows .entry)) (now (places .entry)) parent (h .name) (places-between (now (rows .entry)) (now (places .entry)) from to) from to r) ⌝ }
+        → Seeks profile (now (names .entry)) (now (rows .entry)) (now (places .entry)) parent (h .name) (places-between (now (rows .entry)) (now (places .entry)) from to) from to r) ⌝ }
 {
     let standing = find(s, tree, names, rows, places, i, from, to);
     let Standing::At { place, entry } = standing else {
@@ -223,9 +220,9 @@ fn seek_further(
     further: bool,
     to: u16,
 ) -> Sought
-    ensures { λ r. ⌜ ((table : List Row) (parent : ℕ) (h : Head) (next : ℕ) → ResolvedBetween table (now (names .entry)) (now (rows .entry)) (now (places .entry)) parent from to
+    ensures { λ r. ⌜ ((profile : List Row) (parent : ℕ) (h : Head) (next : ℕ) → ResolvedBetween profile (now (names .entry)) (now (rows .entry)) (now (places .entry)) parent from to
         → (further ≡ true → from < to) → Entry (now (s .entry)) (now (tree .entry)) i h next
-        → Seeks table (now (names .entry)) (now (rows .entry)) (now (places .entry)) parent (h .name) (places-left (now (rows .entry)) (now (places .entry)) from further to) from to r) ⌝ }
+        → Seeks profile (now (names .entry)) (now (rows .entry)) (now (places .entry)) parent (h .name) (places-left (now (rows .entry)) (now (places .entry)) from further to) from to r) ⌝ }
 {
     if !further {
         return seek(s, tree, names, rows, places, i, from, to);
@@ -246,7 +243,7 @@ fn seek_further(
 
 // The end tag of a group, where the places from `from` up to `to` are left.
 fn ends(rows: &[u16], places: &[u16], from: u16, to: u16, close: usize) -> Finding
-    ensures { λ r. ⌜ refusal-in r ≡ ends (places-between (now (rows .entry)) (now (places .entry)) from to) close ⌝ }
+    ensures { λ r. ⌜ refusal-found r ≡ ends (places-between (now (rows .entry)) (now (places .entry)) from to) close ⌝ }
 {
     let lacks = missing(rows, places, from, to);
     if let Lacks::Row(element) = lacks {
@@ -267,7 +264,7 @@ fn ends_further(
     to: u16,
     close: usize,
 ) -> Finding
-    ensures { λ r. ⌜ refusal-in r ≡ ends (places-left (now (rows .entry)) (now (places .entry)) from further to) close ⌝ }
+    ensures { λ r. ⌜ refusal-found r ≡ ends (places-left (now (rows .entry)) (now (places .entry)) from further to) close ⌝ }
 {
     if !further {
         return ends(rows, places, from, to, close);
@@ -305,4 +302,202 @@ fn first_black(s: &[u8]) -> usize
         i += 1;
     }
     i
+}
+
+// Text in a group, element i as entry e: white space alone, and the end tag.
+fn text_in_group(s: &[u8], tree: &[u16], rows: &[u16], places: &[u16], i: usize, e: u16) -> Finding
+    ensures { λ r. ⌜ ((h : Head) (next : ℕ) → Entry (now (s .entry)) (now (tree .entry)) i h next
+        → refusal-found r ≡ only-white (of-entry (now (rows .entry)) e 0) (places-between (now (rows .entry)) (now (places .entry)) (of-entry (now (rows .entry)) e 5) (of-entry (now (rows .entry)) e 6)) h (between (h .start) (h .close) (now (s .entry)))) ⌝ }
+{
+    let start = tree::cell(tree, i, 2);
+    let close = tree::cell(tree, i, 3);
+    if s.len() < start {
+        return Finding::Nothing;
+    }
+    let text = part(s, start, close);
+    let black = first_black(text);
+    if black < text.len() {
+        return Finding::Refused(Fault::NotAllowedThere {
+            element: wide(of_entry(rows, e, 0)),
+            offset: start + black,
+        });
+    }
+    ends(
+        rows,
+        places,
+        of_entry(rows, e, 5),
+        of_entry(rows, e, 6),
+        close,
+    )
+}
+
+// Refusal 7, so far behind the start of the leaf's text.
+fn outside(s: &[u8], row: usize, start: usize, behind: usize) -> Finding
+    ensures { λ r. ⌜ (start ≤ length (now (s .entry)) → behind ≤ length (now (s .entry)) → refusal-found r ≡ refuse 7 row (start + behind)) ⌝ }
+{
+    if s.len() < start {
+        return Finding::Nothing;
+    }
+    if s.len() < behind {
+        return Finding::Nothing;
+    }
+    Finding::Refused(Fault::CharacterNotInTheSet {
+        element: row,
+        offset: start + behind,
+    })
+}
+
+// 6 to 8 at element i as a leaf of this row. The currency of row 42 stands in its start tag.
+fn judged(s: &[u8], tree: &[u16], parent: usize, i: usize, row: usize, longest: usize) -> Finding
+    ensures { λ r. ⌜ Judged (now (s .entry)) (now (tree .entry)) true parent i row longest r ⌝ }
+{
+    let at = tree::cell(tree, i, 0);
+    let start = tree::cell(tree, i, 2);
+    let close = tree::cell(tree, i, 3);
+    if s.len() <= at {
+        return Finding::Nothing;
+    }
+    let currency = part(s, at + 15, at + 18);
+    let judgement = values::leaf(parent, row, longest, currency, part(s, start, close));
+    match judgement {
+        Judgement::Fine => Finding::Nothing,
+        Judgement::EmptyOrTooLong => Finding::Refused(Fault::EmptyOrTooLong {
+            element: row,
+            offset: at,
+        }),
+        Judgement::NotInTheSet { at: behind } => outside(s, row, start, behind),
+        Judgement::NotAllowed => Finding::Refused(Fault::ValueNotAllowed {
+            element: row,
+            offset: at,
+        }),
+    }
+}
+
+// Element i as a leaf of this row.
+fn leaf(
+    s: &[u8],
+    tree: &[u16],
+    judging: bool,
+    parent: usize,
+    i: usize,
+    row: usize,
+    longest: usize,
+) -> Finding
+    ensures { λ r. ⌜ Judged (now (s .entry)) (now (tree .entry)) judging parent i row longest r ⌝ }
+{
+    if judging {
+        return judged(s, tree, parent, i, row, longest);
+    }
+    Finding::Nothing
+}
+
+// Element i as entry e, under a parent's row.
+fn element(
+    s: &[u8],
+    tree: &[u16],
+    names: &[u8],
+    rows: &[u16],
+    places: &[u16],
+    judging: bool,
+    parent: usize,
+    i: usize,
+    e: u16,
+) -> Finding
+    ensures { λ r. ⌜ Walks (now (s .entry)) (now (tree .entry)) (now (names .entry)) (now (rows .entry)) (now (places .entry)) judging parent i e r ⌝ }
+{
+    if 16384 <= i {
+        return Finding::Nothing;
+    }
+    let row = wide(of_entry(rows, e, 0));
+    let longest = wide(of_entry(rows, e, 4));
+    if tree::cell(tree, i, 4) <= i + 1 {
+        if longest == 0 {
+            return text_in_group(s, tree, rows, places, i, e);
+        }
+        return leaf(s, tree, judging, parent, i, row, longest);
+    }
+    if longest == 0 {
+        return children(s, tree, names, rows, places, judging, i, e);
+    }
+    Finding::Refused(Fault::NotAllowedThere {
+        element: row,
+        offset: tree::cell(tree, i + 1, 0),
+    })
+}
+
+// The children of element i as entry e, one after the other.
+fn children(
+    s: &[u8],
+    tree: &[u16],
+    names: &[u8],
+    rows: &[u16],
+    places: &[u16],
+    judging: bool,
+    i: usize,
+    e: u16,
+) -> Finding
+    ensures { λ r. ⌜ WalksAll (now (s .entry)) (now (tree .entry)) (now (names .entry)) (now (rows .entry)) (now (places .entry)) judging i e r ⌝ }
+{
+    if 16384 <= i {
+        return Finding::Nothing;
+    }
+    let row = wide(of_entry(rows, e, 0));
+    let to = of_entry(rows, e, 6);
+    let next = tree::cell(tree, i, 4);
+    let mut place = of_entry(rows, e, 5);
+    let mut further = false;
+    let mut child = i + 1;
+    while child < next {
+        let at = tree::cell(tree, child, 0);
+        let after = tree::cell(tree, child, 4);
+        if after <= child {
+            return Finding::Nothing;
+        }
+        let sought = seek_further(s, tree, names, rows, places, child, place, further, to);
+        match sought {
+            Sought::Never => {
+                return Finding::Refused(Fault::NotAllowedThere {
+                    element: row,
+                    offset: at,
+                });
+            }
+            Sought::Early(element) => {
+                return Finding::Refused(Fault::Missing {
+                    element,
+                    offset: at,
+                });
+            }
+            Sought::Found {
+                entry,
+                place: left,
+                further: again,
+            } => {
+                let found = element(s, tree, names, rows, places, judging, row, child, entry);
+                if let Finding::Refused(fault) = found {
+                    return Finding::Refused(fault);
+                }
+                place = left;
+                further = again;
+            }
+        }
+        child = after;
+    }
+    ends_further(rows, places, place, further, to, tree::cell(tree, i, 3))
+}
+
+// The walk over document 01's rows, from the root: 3 and 4, or, where it is judging, 6 to 8 as well.
+pub fn check(s: &[u8], tree: &[u16], judging: bool) -> Finding
+    ensures { λ r. ⌜ ((root : Element) (next : ℕ) → Laid (now (s .entry)) (now (tree .entry)) root 0 next → refusal-found r ≡ refusal-by judging rows root) ⌝ }
+{
+    element(
+        s,
+        tree,
+        &profile::NAMES,
+        &profile::ROWS,
+        &profile::PLACES,
+        judging,
+        0,
+        0,
+        0,
+    )
 }

@@ -1,16 +1,18 @@
 -- One step of a walk along a text, for each definition that is taken byte by byte: with a byte more, at a byte that decides, at the end.
-use Prim.Native.Nat.{ℕ, suc, _+_, _<_, _≤_}
+use Prim.Native.Nat.{ℕ, suc, _+_, _-_, _<_, _≤_}
 use Prim.Native.Char.{code}
 use Prim.Native.String.{String, [] as []ˢ, _∷_ as _∷ˢ_}
-use mathlib.Core.Path.{_≡_, refl, ap, _∙_}
+use mathlib.Core.Path.{_≡_, refl, sym, ap, _∙_}
 use mathlib.Core.List.{List, [], _∷_}
 use mathlib.Core.Bool.{Bool, true, false, _&&_, _||_}
 use native.Mathlib.Numerals.{add-one}
-use lib.ListN.{length, getD, drop, drop-of-length-le}
+use native.Mathlib.Omega.{arith}
+use lib.ListN.{length, getD, drop, drop-of-length-le, take, length-drop}
 use native.Mathlib.Nat.{add-zero}
-use lib.Seq.{drop-cons, getD-drop}
+use lib.Seq.{drop-cons, getD-drop, take-all}
 use lib.Dec.{eqb}
-use Rattle.paper.specs.Bytes.{bytes, is, from-to, one-of, letter, digit, letter-or-digit, capital-or-digit, value-character, every, same}
+use borrow.Author.Tests.{eq-eqb, ne-eqb, eqb-true, eqb-false}
+use Rattle.paper.specs.Bytes.{if_then_else_, bytes, is, from-to, one-of, letter, digit, letter-or-digit, capital-or-digit, value-character, every, same}
 use Rattle.paper.specs.Values.{among, fits, shaped, two-slashes}
 use Rattle.paper.specs.Refusals.{first-not}
 use Rattle.texts.specs.Shapes.{fits-byte, pairwise}
@@ -20,6 +22,19 @@ drop-at s i h = rw add-one (drop-cons s i 0 h)
 
 pub drop-end : (s : List ℕ) (i : ℕ) → length s ≤ i → drop i s ≡ []
 drop-end s i h = drop-of-length-le s h
+
+-- the part of a text from a place to its end
+pub rest-is : (w : List ℕ) (k : ℕ) → take (length w - k) (drop k w) ≡ drop k w
+rest-is w k = take-all (length w - k) (drop k w) (omega (arith, length-drop k w))
+
+-- what a joined test that holds says of its parts
+pub both-left : (a b : Bool) → (a && b) ≡ true → a ≡ true
+both-left true b e = refl
+both-left false b e = e
+
+pub both-right : (a b : Bool) → (a && b) ≡ true → b ≡ true
+both-right true b e = e
+both-right false b e = let z : _≡_ {A = ℕ} 0 1 = cc in absurd (omega arith)
 
 module _ (p : ℕ → Bool) (s : List ℕ) (i : ℕ) where
   pub every-goes : i < length s → p (getD s i 0) ≡ true → every p (drop i s) ≡ every p (drop (i + 1) s)
@@ -106,6 +121,13 @@ module _ (f : ℕ → ℕ → Bool) where
     unfolding pairwise
     pairwise-ends h k = rw (drop-end s i h, drop-end t i k)
 
+  pub pairwise-same-length : (s t : List ℕ) → pairwise f s t ≡ true → length s ≡ length t
+  unfolding pairwise
+  pairwise-same-length [] [] e = refl
+  pairwise-same-length [] (b ∷ t) e = let z : _≡_ {A = ℕ} 0 1 = cc in absurd (omega arith)
+  pairwise-same-length (a ∷ s) [] e = let z : _≡_ {A = ℕ} 0 1 = cc in absurd (omega arith)
+  pairwise-same-length (a ∷ s) (b ∷ t) e = ap suc (pairwise-same-length s t (both-right (f a b) (pairwise f s t) e))
+
 -- the paper's own forms
 pub one-of-is : (s : String) (b : ℕ) → one-of s b ≡ among b (bytes s)
 unfolding one-of among bytes is
@@ -142,3 +164,46 @@ every-space w = refl
 pub not-small : (b : ℕ) → from-to "a" "z" b ≡ false → value-character b ≡ (capital-or-digit b || among b (bytes "/-?:().,'+ "))
 unfolding value-character letter-or-digit letter capital-or-digit
 not-small b e = rw (e, one-of-is "/-?:().,'+ " b)
+
+-- a text is the same as itself
+pub same-refl : (w : List ℕ) → same w w ≡ true
+unfolding same
+same-refl [] = refl
+same-refl (b ∷ w) = rw (eq-eqb b b refl, same-refl w)
+
+eqb-swap : (a b : ℕ) → eqb a b ≡ eqb b a
+eqb-swap a b = by (eqb a b) refl
+  where
+    by : (c : Bool) → eqb a b ≡ c → eqb a b ≡ eqb b a
+    by true e = e ∙ sym (eq-eqb b a (sym (eqb-true a b e)))
+    by false e = e ∙ sym (ne-eqb b a (λ q. eqb-false a b e (sym q)))
+
+pub same-swap : (s t : List ℕ) → same s t ≡ same t s
+unfolding same
+same-swap [] [] = refl
+same-swap [] (b ∷ t) = refl
+same-swap (a ∷ s) [] = refl
+same-swap (a ∷ s) (b ∷ t) = rw (eqb-swap a b, same-swap s t)
+
+-- every byte is of a kind exactly where none is the first that is not
+pub none-first : (p : ℕ → Bool) (w : List ℕ) → length w ≤ first-not p w → every p w ≡ true
+unfolding every first-not
+none-first p [] h = refl
+none-first p (b ∷ w) h = by (p b) (none-first p w) h
+  where
+    by :
+        (c : Bool) → (length w ≤ first-not p w → every p w ≡ true) → suc (length w) ≤ (if c then suc (first-not p w) else 0) →
+        (c && every p w) ≡ true
+    by true rest k = rest (omega arith)
+    by false rest k = absurd (omega arith)
+
+pub one-first : (p : ℕ → Bool) (w : List ℕ) → first-not p w < length w → every p w ≡ false
+unfolding every first-not
+one-first p [] h = absurd (omega arith)
+one-first p (b ∷ w) h = by (p b) (one-first p w) h
+  where
+    by :
+        (c : Bool) → (first-not p w < length w → every p w ≡ false) → (if c then suc (first-not p w) else 0) < suc (length w) →
+        (c && every p w) ≡ false
+    by true rest k = rest (omega arith)
+    by false rest k = refl

@@ -19,7 +19,7 @@ fn between(low: u8, high: u8, b: u8) -> bool
     b <= high
 }
 
-fn digit(b: u8) -> bool
+pub fn digit(b: u8) -> bool
     ensures { λ r. ⌜ r ≡ digit b ⌝ }
 {
     between(b'0', b'9', b)
@@ -157,7 +157,7 @@ pub fn spaces_alone(s: &[u8]) -> bool
 }
 
 // The byte at a place, 0 past the end.
-fn byte_at(s: &[u8], i: usize) -> u8
+pub fn byte_at(s: &[u8], i: usize) -> u8
     ensures { λ r. ⌜ r ≡ getD (now (s .entry)) i 0 ⌝ }
 {
     if i < s.len() {

@@ -1,34 +1,26 @@
-use mathlib.Core.Path.{_≡_}
 use Rattle.paper.specs.Answers.{refusal-of, numbered}
 use Rattle.paper.specs.Refusals.{refuse}
-use Rattle.rows.specs.Walk.{refusal-in}
+use Rattle.paper.specs.Answers.{refusal-found}
 use Rattle.rows.proofs.Places.{ends-early, ends-well}
 use borrow.Author.Needs.{needs}
 use Rattle.rows.proofs.ends.Statement.{statement}
 use Rattle.rows.proofs.ends.Tie as tie
-use Rattle.rows.proofs.ends.Reads as reads
-use Rattle.rows.proofs.ends.Lts as lts
-use Rattle.rows.proofs.missing.Reads as missing-reads
 
--- src/lib.rt:211:9
 missing-requires : tie.Need-missing-requires
 missing-requires c κs = search needs
 
--- src/lib.rt:212:23
 enum-known-lacks : tie.Need-enum-known-lacks
 enum-known-lacks c = search needs
 
--- src/lib.rt:213:9
 returns : tie.Need-returns
-unfolding refusal-in refusal-of numbered refuse
+unfolding refusal-found refusal-of numbered refuse
 returns c = ends-early _ _ (c .before .before .before .missing .ensures) (c .before .lacks .given .1)
 
 enum-told : tie.Need-enum-told
 enum-told c = search needs
 
--- src/lib.rt:208:1
 returns-2 : tie.Need-returns-2
-unfolding refusal-in
+unfolding refusal-found
 returns-2 c = ends-well _ _ (c .before .before .missing .ensures) (c .enum-told .given .1)
 
 pub ends-spec : {M : Type 1} → statement M

@@ -1,35 +1,26 @@
 use borrow.Author.Tests.{not-true, not-false}
-use Rattle.rows.specs.Walk.{refusal-in}
+use Rattle.paper.specs.Answers.{refusal-found}
 use Rattle.rows.proofs.Places.{ends-fresh, ends-on, ends-nothing}
 use borrow.Author.Needs.{needs}
 use Rattle.rows.proofs.ends_further.Statement.{statement}
 use Rattle.rows.proofs.ends_further.Tie as tie
-use Rattle.rows.proofs.ends_further.Reads as reads
-use Rattle.rows.proofs.ends_further.Lts as lts
-use Rattle.rows.proofs.ends.Reads as ends-reads
 
--- src/lib.rt:226:9
 ends-requires : tie.Need-ends-requires
 ends-requires c κs = search needs
 
--- src/lib.rt:226:9
 returns : tie.Need-returns
 returns c = ends-fresh _ _ _ _ _ (not-true _ (c .before .if1 .taken)) (c .ends .ensures)
 
--- src/lib.rt:229:9
 returns-2 : tie.Need-returns-2
-unfolding refusal-in
+unfolding refusal-found
 returns-2 c = ends-nothing _ _ _ _ _ (not-false _ (c .before .if1 .left)) (c .if2 .taken)
 
--- src/lib.rt:231:24
 add-ends : tie.Need-add-ends
 add-ends c = search needs
 
--- src/lib.rt:231:5
 ends-requires-2 : tie.Need-ends-requires-2
 ends-requires-2 c κs = search needs
 
--- src/lib.rt:222:1
 returns-3 : tie.Need-returns-3
 returns-3 c = ends-on _ _ _ _ _ (not-false _ (c .before .before .if1 .left)) (c .ends2 .ensures)
 

@@ -9,9 +9,6 @@ use Rattle.paper.specs.Refusals.{first-not}
 use Rattle.texts.proofs.Laws.{first-goes, first-stops, first-ends}
 use Rattle.rows.proofs.first_black.Statement.{statement}
 use Rattle.rows.proofs.first_black.Tie as tie
-use Rattle.rows.proofs.first_black.Reads as reads
-use Rattle.rows.proofs.first_black.Lts as lts
-use Rattle.rows.proofs.white.Reads as white-reads
 
 abbrev Inv-loop : tie.InvT-loop
 Inv-loop s i₀ i = (i ≤ length s) × (first-not white s ≡ i + first-not white (drop i s))
@@ -19,35 +16,27 @@ Inv-loop s i₀ i = (i ≤ length s) × (first-not white s ≡ i + first-not whi
 abbrev μ-loop : tie.MeasureT-loop
 μ-loop s i₀ i = length s - i
 
--- src/lib.rt:254:5
 loop-holds : tie.Need-loop-holds Inv-loop μ-loop
 loop-holds c = search needs
 
--- src/lib.rt:255:19
 shared-slice-read-white : tie.Need-shared-slice-read-white Inv-loop μ-loop
 shared-slice-read-white c = search needs
 
--- src/lib.rt:255:13
 white-requires : tie.Need-white-requires Inv-loop μ-loop
 white-requires c κs = search needs
 
--- src/lib.rt:256:13
 returns : tie.Need-returns Inv-loop μ-loop
 returns c = omega (arith, c .before .before .before .before .loop .inv .1, first-stops white (c .before .before .before .before .before .before .args .s .now) (c .before .before .before .before .loop .i) (c .before .before .before .loop-test .taken) (sym (c .before .white .ensures) ∙ not-true _ (c .if1 .taken)))
 
--- src/lib.rt:258:9
 add-i : tie.Need-add-i Inv-loop μ-loop
 add-i c = search needs
 
--- src/lib.rt:254:5
 loop-less : tie.Need-loop-less Inv-loop μ-loop
 loop-less c = search needs
 
--- src/lib.rt:254:5
 loop-again : tie.Need-loop-again Inv-loop μ-loop
 loop-again c = omega (arith, c .before .before .before .before .loop .inv .1, first-goes white (c .before .before .before .before .before .before .args .s .now) (c .before .before .before .before .loop .i) (c .before .before .before .loop-test .taken) (sym (c .before .white .ensures) ∙ not-false _ (c .if1 .left)))
 
--- src/lib.rt:250:1
 returns-2 : tie.Need-returns-2 Inv-loop μ-loop
 returns-2 c = omega (arith, c .before .loop .inv .1, first-ends white (c .before .before .before .args .s .now) (c .before .loop .i) (c .loop-test .left))
 

@@ -9,11 +9,6 @@ use Rattle.rows.specs.Walk.{lacking}
 use Rattle.rows.proofs.Places.{missing-goes, missing-stops, missing-ends}
 use Rattle.rows.proofs.missing.Statement.{statement}
 use Rattle.rows.proofs.missing.Tie as tie
-use Rattle.rows.proofs.missing.Reads as reads
-use Rattle.rows.proofs.missing.Lts as lts
-use Rattle.rows.proofs.of_entry.Reads as of-entry-reads
-use Rattle.rows.proofs.of_place.Reads as of-place-reads
-use Rattle.rows.proofs.wide.Reads as wide-reads
 
 abbrev Inv-loop : tie.InvT-loop
 Inv-loop rows places from to p₀ p = missing (places-between rows places from to) ≡ missing (places-between rows places p to)
@@ -21,44 +16,34 @@ Inv-loop rows places from to p₀ p = missing (places-between rows places from t
 abbrev μ-loop : tie.MeasureT-loop
 μ-loop rows places from to p₀ p = to - p
 
--- src/lib.rt:103:5
 loop-holds : tie.Need-loop-holds Inv-loop μ-loop
 loop-holds c = refl
 
--- src/lib.rt:104:12
 of-place-requires : tie.Need-of-place-requires Inv-loop μ-loop
 of-place-requires c κs = search needs
 
--- src/lib.rt:105:51
 of-place-requires-2 : tie.Need-of-place-requires-2 Inv-loop μ-loop
 of-place-requires-2 c κs = search needs
 
--- src/lib.rt:105:36
 of-entry-requires : tie.Need-of-entry-requires Inv-loop μ-loop
 of-entry-requires c κs = search needs
 
--- src/lib.rt:105:31
 wide-requires : tie.Need-wide-requires Inv-loop μ-loop
 wide-requires c κs = search needs
 
--- src/lib.rt:105:13
 returns : tie.Need-returns Inv-loop μ-loop
 unfolding lacking
 returns c = sym (c .before .before .before .before .before .before .loop .inv ∙ missing-stops _ _ _ _ (c .before .before .before .before .before .loop-test .taken) (λ e. c .before .before .before .if1 .taken (c .before .before .before .before .of-place .ensures ∙ e)) ∙ ap some (sym (c .wide .ensures ∙ c .before .of-entry .ensures ∙ ap (λ (e : ℕ). of-entry (now (c .before .before .before .before .before .before .before .before .before .args .rows)) e 0) (c .before .before .of-place2 .ensures))))
 
--- src/lib.rt:107:9
 add-p : tie.Need-add-p Inv-loop μ-loop
 add-p c = search needs
 
--- src/lib.rt:103:5
 loop-less : tie.Need-loop-less Inv-loop μ-loop
 loop-less c = search needs
 
--- src/lib.rt:103:5
 loop-again : tie.Need-loop-again Inv-loop μ-loop
 loop-again c = c .before .before .before .loop .inv ∙ missing-goes _ _ _ _ (c .before .before .loop-test .taken) (sym (c .before .of-place .ensures) ∙ c .if1 .left)
 
--- src/lib.rt:99:1
 returns-2 : tie.Need-returns-2 Inv-loop μ-loop
 unfolding lacking
 returns-2 c = sym (c .before .loop .inv ∙ missing-ends _ _ _ _ (c .loop-test .left))

@@ -1,43 +1,30 @@
 use Prim.Native.Nat.{ℕ}
 use mathlib.Core.List.{List}
-use mathlib.Core.Path.{_≡_, refl, sym, ap, _∙_}
+use mathlib.Core.Path.{ap, _∙_}
 use Rattle.paper.specs.Bytes.{same}
 use Rattle.rows.proofs.Parts.{between-is}
 use borrow.Author.Needs.{needs}
 use Rattle.rows.proofs.named.Statement.{statement}
 use Rattle.rows.proofs.named.Tie as tie
-use Rattle.rows.proofs.named.Reads as reads
-use Rattle.rows.proofs.named.Lts as lts
-use Rattle.rows.proofs.of_entry.Reads as of-entry-reads
-use Rattle.rows.proofs.part.Reads as part-reads
-use Rattle.rows.proofs.wide.Reads as wide-reads
-use Rattle.tree.proofs.is_named.Reads as is-named-reads
 
--- src/lib.rt:117:21
 of-entry-requires : tie.Need-of-entry-requires
 of-entry-requires c κs = search needs
 
--- src/lib.rt:117:9
 wide-requires : tie.Need-wide-requires
 wide-requires c κs = search needs
 
--- src/lib.rt:118:19
 of-entry-requires-2 : tie.Need-of-entry-requires-2
 of-entry-requires-2 c κs = search needs
 
--- src/lib.rt:118:9
 wide-requires-2 : tie.Need-wide-requires-2
 wide-requires-2 c κs = search needs
 
--- src/lib.rt:119:32
 part-requires : tie.Need-part-requires
 part-requires c κs = search needs
 
--- src/lib.rt:119:5
 is-named-requires : tie.Need-is-named-requires
 is-named-requires c κs = search needs
 
--- src/lib.rt:113:1
 returns : tie.Need-returns
 returns c = λ h next e. c .is-named .ensures h next e ∙ ap (λ (w : List ℕ). same (h .name) w) (c .before .part .ensures ∙ between-is _ (c .before .before .before .before .wide .ensures ∙ c .before .before .before .before .before .of-entry .ensures) (c .before .before .wide2 .ensures ∙ c .before .before .before .of-entry2 .ensures))
 

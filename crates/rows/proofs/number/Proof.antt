@@ -4,22 +4,16 @@ use lib.ListN.{List·getD-eq-default}
 use borrow.Author.Needs.{needs}
 use Rattle.rows.proofs.number.Statement.{statement}
 use Rattle.rows.proofs.number.Tie as tie
-use Rattle.rows.proofs.number.Reads as reads
-use Rattle.rows.proofs.number.Lts as lts
 
--- src/lib.rt:65:16
 mul-result : tie.Need-mul-result
 mul-result c = search needs
 
--- src/lib.rt:65:16
 shared-slice-read-result : tie.Need-shared-slice-read-result
 shared-slice-read-result c = search needs
 
--- src/lib.rt:65:9
 returns : tie.Need-returns
 returns c = search needs
 
--- src/lib.rt:61:1
 returns-2 : tie.Need-returns-2
 returns-2 c = sym (List·getD-eq-default (now (c .before .args .t)) 0 (c .if1 .left))
 

@@ -1,32 +1,22 @@
 use borrow.Author.Needs.{needs}
 use Rattle.rows.proofs.of_place.Statement.{statement}
 use Rattle.rows.proofs.of_place.Tie as tie
-use Rattle.rows.proofs.of_place.Reads as reads
-use Rattle.rows.proofs.of_place.Lts as lts
-use Rattle.rows.proofs.number.Reads as number-reads
-use Rattle.rows.proofs.wide.Reads as wide-reads
 
--- src/lib.rt:79:20
 wide-requires : tie.Need-wide-requires
 wide-requires c κs = search needs
 
--- src/lib.rt:79:20
 mul-number : tie.Need-mul-number
 mul-number c = search needs
 
--- src/lib.rt:79:34
 wide-requires-2 : tie.Need-wide-requires-2
 wide-requires-2 c κs = search needs
 
--- src/lib.rt:79:20
 add-number : tie.Need-add-number
 add-number c = search needs
 
--- src/lib.rt:79:5
 number-requires : tie.Need-number-requires
 number-requires c κs = search needs
 
--- src/lib.rt:76:1
 returns : tie.Need-returns
 returns c = rw (c .before .before .wide .ensures, c .before .wide2 .ensures) at (c .number .ensures)
 

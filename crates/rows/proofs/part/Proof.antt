@@ -3,66 +3,49 @@ use borrow.Author.Needs.{needs}
 use Rattle.rows.proofs.Parts.{part-past, part-back, part-end}
 use Rattle.rows.proofs.part.Statement.{statement}
 use Rattle.rows.proofs.part.Tie as tie
-use Rattle.rows.proofs.part.Reads as reads
-use Rattle.rows.proofs.part.Lts as lts
 
--- src/lib.rt:87:16
 sub-result : tie.Need-sub-result
 sub-result c = search needs
 
--- src/lib.rt:87:16
 part-result-start : tie.Need-part-result-start
 part-result-start c = search needs
 
--- src/lib.rt:87:16
 part-result-end : tie.Need-part-result-end
 part-result-end c = search needs
 
--- src/lib.rt:87:9
 returns : tie.Need-returns
 returns c = sym (part-past _ _ _ (c .before .if1 .taken))
 
--- src/lib.rt:90:16
 sub-result-2 : tie.Need-sub-result-2
 sub-result-2 c = search needs
 
--- src/lib.rt:90:16
 part-result-start-2 : tie.Need-part-result-start-2
 part-result-start-2 c = search needs
 
--- src/lib.rt:90:16
 part-result-end-2 : tie.Need-part-result-end-2
 part-result-end-2 c = search needs
 
--- src/lib.rt:90:9
 returns-2 : tie.Need-returns-2
 returns-2 c = sym (part-back _ _ _ (c .before .if2 .taken))
 
--- src/lib.rt:93:16
 sub-result-3 : tie.Need-sub-result-3
 sub-result-3 c = search needs
 
--- src/lib.rt:93:16
 part-result-start-3 : tie.Need-part-result-start-3
 part-result-start-3 c = search needs
 
--- src/lib.rt:93:16
 part-result-end-3 : tie.Need-part-result-end-3
 part-result-end-3 c = search needs
 
--- src/lib.rt:93:9
 returns-3 : tie.Need-returns-3
 returns-3 c = sym (part-end _ _ _ (c .before .if3 .taken))
 
--- src/lib.rt:95:5
 part-result-start-4 : tie.Need-part-result-start-4
 part-result-start-4 c = search needs
 
--- src/lib.rt:95:5
 part-result-end-4 : tie.Need-part-result-end-4
 part-result-end-4 c = search needs
 
--- src/lib.rt:83:1
 returns-4 : tie.Need-returns-4
 returns-4 c = search needs
 

@@ -1,51 +1,37 @@
-use mathlib.Core.Path.{_≡_, sym, _∙_}
+use mathlib.Core.Path.{sym, _∙_}
 use native.Mathlib.Omega.{arith}
 use borrow.Author.Tests.{not-true, not-false}
 use Rattle.rows.proofs.Places.{seek-fresh, seek-seen, seek-again, seek-on}
 use borrow.Author.Needs.{needs}
 use Rattle.rows.proofs.seek_further.Statement.{statement}
 use Rattle.rows.proofs.seek_further.Tie as tie
-use Rattle.rows.proofs.seek_further.Reads as reads
-use Rattle.rows.proofs.seek_further.Lts as lts
-use Rattle.rows.proofs.named.Reads as named-reads
-use Rattle.rows.proofs.of_place.Reads as of-place-reads
-use Rattle.rows.proofs.seek.Reads as seek-reads
 
--- src/lib.rt:195:9
 seek-requires : tie.Need-seek-requires
 seek-requires c κs = search needs
 
--- src/lib.rt:195:9
 returns : tie.Need-returns
-returns c = λ table parent h next r f e. seek-fresh table _ _ _ parent (h .name) _ _ _ (not-true _ (c .before .if1 .taken)) (c .seek .ensures table parent h next r e)
+returns c = λ profile parent h next r f e. seek-fresh profile _ _ _ parent (h .name) _ _ _ (not-true _ (c .before .if1 .taken)) (c .seek .ensures profile parent h next r e)
 
--- src/lib.rt:197:9
 of-place-requires : tie.Need-of-place-requires
 of-place-requires c κs = search needs
 
--- src/lib.rt:198:8
 named-requires : tie.Need-named-requires
 named-requires c κs = search needs
 
--- src/lib.rt:199:9
 returns-2 : tie.Need-returns-2
-returns-2 c = λ table parent h next r f e. seek-seen table _ _ _ parent (h .name) _ _ _ (not-false _ (c .before .before .before .if1 .left)) (seek-again table _ _ _ parent (h .name) _ _ (r _ (omega arith) (f (not-false _ (c .before .before .before .if1 .left)))) (f (not-false _ (c .before .before .before .if1 .left))) _ (c .before .before .of-place .ensures) (sym (c .before .named .ensures h next e) ∙ c .if2 .taken))
+returns-2 c = λ profile parent h next r f e. seek-seen profile _ _ _ parent (h .name) _ _ _ (not-false _ (c .before .before .before .if1 .left)) (seek-again profile _ _ _ parent (h .name) _ _ (r _ (omega arith) (f (not-false _ (c .before .before .before .if1 .left)))) (f (not-false _ (c .before .before .before .if1 .left))) _ (c .before .before .of-place .ensures) (sym (c .before .named .ensures h next e) ∙ c .if2 .taken))
 
--- src/lib.rt:202:9
 returns-3 : tie.Need-returns-3
-returns-3 c = λ table parent h next r f e. absurd (omega (arith, f (not-false _ (c .before .before .before .before .if1 .left))))
+returns-3 c = λ profile parent h next r f e. absurd (omega (arith, f (not-false _ (c .before .before .before .before .if1 .left))))
 
--- src/lib.rt:204:43
 add-seek : tie.Need-add-seek
 add-seek c = search needs
 
--- src/lib.rt:204:5
 seek-requires-2 : tie.Need-seek-requires-2
 seek-requires-2 c κs = search needs
 
--- src/lib.rt:189:1
 returns-4 : tie.Need-returns-4
-returns-4 c = λ table parent h next r f e. seek-seen table _ _ _ parent (h .name) _ _ _ (not-false _ (c .before .before .before .before .before .if1 .left)) (seek-on table _ _ _ parent (h .name) _ _ (r _ (omega arith) (f (not-false _ (c .before .before .before .before .before .if1 .left)))) (f (not-false _ (c .before .before .before .before .before .if1 .left))) _ (c .before .before .before .before .of-place .ensures) (sym (c .before .before .before .named .ensures h next e) ∙ c .before .before .if2 .left) _ (c .seek2 .ensures table parent h next (λ p l g. r p (omega arith) g) e))
+returns-4 c = λ profile parent h next r f e. seek-seen profile _ _ _ parent (h .name) _ _ _ (not-false _ (c .before .before .before .before .before .if1 .left)) (seek-on profile _ _ _ parent (h .name) _ _ (r _ (omega arith) (f (not-false _ (c .before .before .before .before .before .if1 .left)))) (f (not-false _ (c .before .before .before .before .before .if1 .left))) _ (c .before .before .before .before .of-place .ensures) (sym (c .before .before .before .named .ensures h next e) ∙ c .before .before .if2 .left) _ (c .seek2 .ensures profile parent h next (λ p l g. r p (omega arith) g) e))
 
 pub seek-further-spec : {M : Type 1} → statement M
 seek-further-spec =

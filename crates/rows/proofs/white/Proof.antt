@@ -1,29 +1,21 @@
-use borrow.Author.Needs.{needs}
-use mathlib.Core.Path.{_≡_}
 use borrow.Author.Tests.{ne-eqb}
 use Rattle.paper.specs.Bytes.{white, one-of, is}
 use Rattle.rows.proofs.Parts.{either-false}
 use Rattle.rows.proofs.white.Statement.{statement}
 use Rattle.rows.proofs.white.Tie as tie
-use Rattle.rows.proofs.white.Reads as reads
-use Rattle.rows.proofs.white.Lts as lts
 
--- src/lib.rt:238:9
 returns : tie.Need-returns
 unfolding white one-of is
 returns c = rw (c .if1 .taken)
 
--- src/lib.rt:241:9
 returns-2 : tie.Need-returns-2
 unfolding white one-of is
 returns-2 c = rw (ne-eqb _ _ (c .before .if1 .left), c .if2 .taken)
 
--- src/lib.rt:244:9
 returns-3 : tie.Need-returns-3
 unfolding white one-of is
 returns-3 c = rw (ne-eqb _ _ (c .before .before .if1 .left), ne-eqb _ _ (c .before .if2 .left), c .if3 .taken)
 
--- src/lib.rt:234:1
 returns-4 : tie.Need-returns-4
 unfolding white one-of is
 returns-4 c = rw (ne-eqb _ _ (c .before .before .if1 .left), ne-eqb _ _ (c .before .if2 .left), ne-eqb _ _ (c .if3 .left)) (either-false _)

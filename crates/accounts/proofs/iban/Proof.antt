@@ -1,0 +1,113 @@
+use borrow.Author.Needs.{needs}
+use native.Mathlib.Omega.{arith}
+use mathlib.Core.Path.{sym, ap, _∙_}
+use lib.ListN.{length, take, drop, length-take}
+use Prim.Native.Nat.{_-_}
+use borrow.Author.Tests.{not-true, not-false}
+use Rattle.paper.specs.Bytes.{bytes, every, capital-or-digit}
+use Rattle.paper.specs.Values.{iban, countries}
+use Rattle.texts.specs.Shapes.{fits-byte}
+use Rattle.texts.proofs.Laws.{shaped-is, pairwise-length, rest-is, every-capital-or-digit}
+use Rattle.numbers.proofs.Laws.{spelled-part}
+use Rattle.accounts.proofs.Account.{of-a-country-is, moved-told}
+use Rattle.accounts.proofs.iban.Statement.{statement}
+use Rattle.accounts.proofs.iban.Tie as tie
+
+returns : tie.Need-returns
+unfolding iban bytes
+returns c = rw (shaped-is "AA00" (take 4 (c .before .before .args .s .now)) ∙ pairwise-length fits-byte (bytes "AA00") (take 4 (c .before .before .args .s .now)) (λ e. omega (arith, length-take 4 (c .before .before .args .s .now))))
+
+slice-aggregate-head : tie.Need-slice-aggregate-head
+slice-aggregate-head c = omega (arith, length-take 4 (c .before .before .before .args .s .now))
+
+sub-rest : tie.Need-sub-rest
+sub-rest c = search needs
+
+part-rest-start : tie.Need-part-rest-start
+part-rest-start c = search needs
+
+part-rest-end : tie.Need-part-rest-end
+part-rest-end c = search needs
+
+slice-aggregate-shaped : tie.Need-slice-aggregate-shaped
+slice-aggregate-shaped c = search needs
+
+shaped-requires : tie.Need-shaped-requires
+shaped-requires c κs = search needs
+
+returns-2 : tie.Need-returns-2
+unfolding iban bytes
+returns-2 c = rw (shaped-is "AA00" (take 4 (c .before .before .before .before .before .before .before .args .s .now)) ∙ sym (c .before .shaped .ensures) ∙ not-true _ (c .if2 .taken))
+
+sub-number : tie.Need-sub-number
+sub-number c = search needs
+
+part-number-start : tie.Need-part-number-start
+part-number-start c = search needs
+
+part-number-end : tie.Need-part-number-end
+part-number-end c = search needs
+
+number-requires : tie.Need-number-requires
+number-requires c κs = search needs
+
+lies-from-requires : tie.Need-lies-from-requires
+lies-from-requires c κs = search needs
+
+returns-3 : tie.Need-returns-3
+unfolding iban bytes
+returns-3 c = rw (shaped-is "AA00" (take 4 (c .before .before .before .before .before .before .before .before .before .before .before .args .s .now)) ∙ sym (c .before .before .before .before .before .shaped .ensures) ∙ not-false _ (c .before .before .before .before .if2 .left), ← spelled-part (c .before .before .before .before .before .before .before .before .before .before .before .args .s .now) 2 2 _ (omega arith) (c .before .before .number .ensures), sym (c .before .lies-from .ensures) ∙ not-true _ (c .if3 .taken))
+
+every-requires : tie.Need-every-requires
+every-requires c κs = search needs
+
+returns-4 : tie.Need-returns-4
+unfolding iban bytes
+returns-4 c = rw (shaped-is "AA00" (take 4 (c .before .before .before .before .before .before .before .before .before .before .before .before .before .args .s .now)) ∙ sym (c .before .before .before .before .before .before .before .shaped .ensures) ∙ not-false _ (c .before .before .before .before .before .before .if2 .left), ← spelled-part (c .before .before .before .before .before .before .before .before .before .before .before .before .before .args .s .now) 2 2 _ (omega arith) (c .before .before .before .before .number .ensures), sym (c .before .before .before .lies-from .ensures) ∙ not-false _ (c .before .before .if3 .left), ap (every capital-or-digit) (sym (rest-is (c .before .before .before .before .before .before .before .before .before .before .before .before .before .args .s .now) 4)) ∙ sym (every-capital-or-digit (take (length (c .before .before .before .before .before .before .before .before .before .before .before .before .before .args .s .now) - 4) (drop 4 (c .before .before .before .before .before .before .before .before .before .before .before .before .before .args .s .now)))) ∙ sym (c .before .every .ensures) ∙ not-true _ (c .if4 .taken))
+
+slice-aggregate-country : tie.Need-slice-aggregate-country
+slice-aggregate-country c = omega (arith, length-take 2 (c .before .before .before .before .before .before .before .before .before .before .before .before .before .before .args .s .now))
+
+country-requires : tie.Need-country-requires
+country-requires c κs = search needs
+
+returns-5 : tie.Need-returns-5
+unfolding iban bytes
+returns-5 c = rw (shaped-is "AA00" (take 4 (c .before .before .before .before .before .before .before .before .before .before .before .before .before .before .before .before .args .s .now)) ∙ sym (c .before .before .before .before .before .before .before .before .before .before .shaped .ensures) ∙ not-false _ (c .before .before .before .before .before .before .before .before .before .if2 .left), ← spelled-part (c .before .before .before .before .before .before .before .before .before .before .before .before .before .before .before .before .args .s .now) 2 2 _ (omega arith) (c .before .before .before .before .before .before .before .number .ensures), sym (c .before .before .before .before .before .before .lies-from .ensures) ∙ not-false _ (c .before .before .before .before .before .if3 .left), ap (every capital-or-digit) (sym (rest-is (c .before .before .before .before .before .before .before .before .before .before .before .before .before .before .before .before .args .s .now) 4)) ∙ sym (every-capital-or-digit (take (length (c .before .before .before .before .before .before .before .before .before .before .before .before .before .before .before .before .args .s .now) - 4) (drop 4 (c .before .before .before .before .before .before .before .before .before .before .before .before .before .before .before .before .args .s .now)))) ∙ sym (c .before .before .before .before .every .ensures) ∙ not-false _ (c .before .before .before .if4 .left), of-a-country-is countries (c .before .before .before .before .before .before .before .before .before .before .before .before .before .before .before .before .args .s .now) ∙ sym (c .before .country .ensures) ∙ not-true _ (c .if5 .taken))
+
+remainder-requires : tie.Need-remainder-requires
+remainder-requires c κs = search needs
+
+remainder-requires-2 : tie.Need-remainder-requires-2
+remainder-requires-2 c κs = search needs
+
+returns-6 : tie.Need-returns-6
+unfolding iban bytes
+returns-6 c = rw (shaped-is "AA00" (take 4 (c .before .before .before .before .before .before .before .before .before .before .before .before .before .before .before .before .before .before .args .s .now)) ∙ sym (c .before .before .before .before .before .before .before .before .before .before .before .before .shaped .ensures) ∙ not-false _ (c .before .before .before .before .before .before .before .before .before .before .before .if2 .left), ← spelled-part (c .before .before .before .before .before .before .before .before .before .before .before .before .before .before .before .before .before .before .args .s .now) 2 2 _ (omega arith) (c .before .before .before .before .before .before .before .before .before .number .ensures), sym (c .before .before .before .before .before .before .before .before .lies-from .ensures) ∙ not-false _ (c .before .before .before .before .before .before .before .if3 .left), ap (every capital-or-digit) (sym (rest-is (c .before .before .before .before .before .before .before .before .before .before .before .before .before .before .before .before .before .before .args .s .now) 4)) ∙ sym (every-capital-or-digit (take (length (c .before .before .before .before .before .before .before .before .before .before .before .before .before .before .before .before .before .before .args .s .now) - 4) (drop 4 (c .before .before .before .before .before .before .before .before .before .before .before .before .before .before .before .before .before .before .args .s .now)))) ∙ sym (c .before .before .before .before .before .before .every .ensures) ∙ not-false _ (c .before .before .before .before .before .if4 .left), of-a-country-is countries (c .before .before .before .before .before .before .before .before .before .before .before .before .before .before .before .before .before .before .args .s .now) ∙ sym (c .before .before .before .country .ensures) ∙ not-false _ (c .before .before .if5 .left), moved-told (c .before .before .before .before .before .before .before .before .before .before .before .before .before .before .before .before .before .before .args .s .now) _ _ (c .before .remainder .ensures .0) (c .remainder2 .ensures .0))
+
+pub iban-spec : {M : Type 1} → statement M
+iban-spec =
+    tie.close
+    (tie.spec
+    returns
+    slice-aggregate-head
+    sub-rest
+    part-rest-start
+    part-rest-end
+    slice-aggregate-shaped
+    shaped-requires
+    returns-2
+    sub-number
+    part-number-start
+    part-number-end
+    number-requires
+    lies-from-requires
+    returns-3
+    every-requires
+    returns-4
+    slice-aggregate-country
+    country-requires
+    returns-5
+    remainder-requires
+    remainder-requires-2
+    returns-6)

@@ -1,0 +1,1 @@
+// The written form (refusal 2 of document 01).

@@ -1,0 +1,2 @@
+-- What the numbers of the code say in the paper's words.
+pub mod Readings

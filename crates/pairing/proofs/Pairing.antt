@@ -1,0 +1,181 @@
+-- The walk over a list of ordinals refuses nothing exactly where the list pairs the payments of the first message with those of the second.
+use Prim.Native.Nat.{ℕ, zero, suc, _+_, _<_}
+use native.Mathlib.Omega.{arith}
+use mathlib.Core.List.{List, [], _∷_, List·Memᴰ, List·Memᴰ·head, List·Memᴰ·tail, List·Memᴰ·cases-cons, List·Memᴰ·not-nil, Memᴰ·cast}
+use mathlib.Core.Bool.{Bool, true, false, _&&_, _||_, not}
+use mathlib.Core.Option.{Option, none, some}
+use mathlib.Core.Path.{_≡_, refl, sym, _∙_, ap, subst}
+use mathlib.Core.Logic.{⊎-elim}
+use lib.ListN.{length, getD}
+use lib.Dec.{ltb, eqb}
+use borrow.Author.Tests.{ltb-true, lt-ltb, eqb-true, eq-eqb, not-false}
+use Rattle.paper.specs.Bytes.{if_then_else_, same}
+use Rattle.paper.specs.Values.{among}
+use Rattle.paper.specs.Accepted.{All, all-none, all-more, Distinct, distinct-none, distinct-more}
+use Rattle.paper.specs.Fields.{Value, same-value, differ-from}
+use Rattle.paper.specs.Regrouping.{Answer, answered, message-refused, same-payment, pairing}
+use Rattle.paper.proofs.Laws.{false-not-true, some-not-none, both, both-left, both-right, same-says, same-tests, all-member, all-map, all-from}
+use Rattle.pairing.proofs.Counting.{Names, names-none, names-more}
+
+-- equality of values and of payments, by their tests
+pub same-value-says : (v w : Value) → same-value v w ≡ true → v ≡ w
+unfolding same-value
+same-value-says [] [] e = refl
+same-value-says [] (w ∷ ws) e = false-not-true e
+same-value-says (v ∷ vs) [] e = false-not-true e
+same-value-says (v ∷ vs) (w ∷ ws) e = cons (same-says v w (both-left (same v w) _ e)) (same-value-says vs ws (both-right (same v w) _ e))
+  where
+    cons : v ≡ w → vs ≡ ws → v ∷ vs ≡ w ∷ ws
+    cons p q = cc
+
+pub same-value-tests : (v : Value) → same-value v v ≡ true
+unfolding same-value
+same-value-tests [] = refl
+same-value-tests (v ∷ vs) = both (same-tests v) (same-value-tests vs)
+
+pub same-payment-says : (v w : List Value) → same-payment v w ≡ true → v ≡ w
+unfolding same-payment
+same-payment-says [] [] e = refl
+same-payment-says [] (w ∷ ws) e = false-not-true e
+same-payment-says (v ∷ vs) [] e = false-not-true e
+same-payment-says (v ∷ vs) (w ∷ ws) e = cons (same-value-says v w (both-left (same-value v w) _ e)) (same-payment-says vs ws (both-right (same-value v w) _ e))
+  where
+    cons : v ≡ w → vs ≡ ws → v ∷ vs ≡ w ∷ ws
+    cons p q = cc
+
+pub same-payment-tests : (v : List Value) → same-payment v v ≡ true
+unfolding same-payment
+same-payment-tests [] = refl
+same-payment-tests (v ∷ vs) = both (same-value-tests v) (same-payment-tests vs)
+
+-- no field differs exactly where the payments are equal
+no-difference : (n : ℕ) (v w : List Value) → length v ≡ length w → differ-from n v w ≡ none → v ≡ w
+unfolding differ-from
+no-difference n [] [] l e = refl
+no-difference n [] (w ∷ ws) l e = absurd (omega (arith, l))
+no-difference n (v ∷ vs) [] l e = absurd (omega (arith, l))
+no-difference n (v ∷ vs) (w ∷ ws) l e = go (same-value v w) refl e (λ f. no-difference (suc n) vs ws (omega (arith, l)) f)
+  where
+    go : (t : Bool) → same-value v w ≡ t → (if t then differ-from (suc n) vs ws else some n) ≡ none → (differ-from (suc n) vs ws ≡ none → vs ≡ ws) → v ∷ vs ≡ w ∷ ws
+    go true s f below = cons (same-value-says v w s) (below f)
+      where
+        cons : v ≡ w → vs ≡ ws → v ∷ vs ≡ w ∷ ws
+        cons p q = cc
+    go false s f below = some-not-none f
+
+equal-no-difference : (n : ℕ) (v : List Value) → differ-from n v v ≡ none
+unfolding differ-from
+equal-no-difference n [] = refl
+equal-no-difference n (v ∷ vs) = rw (same-value-tests v) (equal-no-difference (suc n) vs)
+
+-- a number is among numbers
+among-says : (n : ℕ) (ks : List ℕ) → among n ks ≡ true → List·Memᴰ n ks
+unfolding among
+among-says n [] e = false-not-true e
+among-says n (k ∷ ks) e = go (eqb n k) refl e (λ f. among-says n ks f)
+  where
+    go : (t : Bool) → eqb n k ≡ t → (t || among n ks) ≡ true → (among n ks ≡ true → List·Memᴰ n ks) → List·Memᴰ n (k ∷ ks)
+    go true p q below = List·Memᴰ·head (eqb-true n k p)
+    go false p q below = List·Memᴰ·tail (below q)
+
+among-member : {n : ℕ} {ks : List ℕ} → List·Memᴰ n ks → among n ks ≡ true
+unfolding among
+among-member {n} (List·Memᴰ·head {x = k} e) = rw (eq-eqb n k e)
+among-member {n} (List·Memᴰ·tail {x = k} m) = go (eqb n k) (among-member m)
+  where
+    go : (t : Bool) {b : Bool} → b ≡ true → (t || b) ≡ true
+    go true e = refl
+    go false e = e
+
+among-not : (n : ℕ) (ks : List ℕ) → (List·Memᴰ n ks → ⊥) → among n ks ≡ false
+among-not n ks m = go (among n ks) refl
+  where
+    go : (t : Bool) → among n ks ≡ t → t ≡ false
+    go true e = absurd (m (among-says n ks e))
+    go false e = refl
+
+all-getD : {A : Type 0} {P : A → Type 0} (d : A) (l : List A) (i : ℕ) → All P l → i < length l → P (getD l i d)
+all-getD d [] i all-none h = absurd (omega arith)
+all-getD d (a ∷ l) zero (all-more p k) h = p
+all-getD d (a ∷ l) (suc i) (all-more p k) h = all-getD d l i k (omega arith)
+
+-- an answer that is not acceptance
+refused-answer : {A : Type 0} (n k f : ℕ) → 0 < n → answered n k f ≡ answered 0 0 0 → A
+refused-answer n k f h e = let z : n ≡ 0 = cc in absurd (omega (arith, z))
+
+-- the ordinals to come are within the first message, differ from one another and from those before, and name what stands in the second
+pub record Rest (first : List (List Value)) (named os : List ℕ) (second : List (List Value)) : Type 0 where
+  pub within : All (λ o. o < length first) os
+  pub once : Distinct os
+  pub not-before : All (λ o. List·Memᴰ o named → ⊥) os
+  pub names : Names same-payment same-payment-says same-payment-tests [] first os second
+
+module _ (first : List (List Value)) (wide : All (λ v. length v ≡ 17) first) where
+  one-pair : (o : ℕ) (os named : List ℕ) (p : List Value) (ps : List (List Value)) → o < length first → (List·Memᴰ o named → ⊥) → getD first o [] ≡ p
+      → Rest first (o ∷ named) os ps → Rest first named (o ∷ os) (p ∷ ps)
+  one-pair o os named p ps l n e r =
+      record {
+        within = all-more l (r .within);
+        once = distinct-more (λ m. all-member (r .not-before) m (List·Memᴰ·head refl)) (r .once);
+        not-before = all-more n (all-map (λ q k m. k (List·Memᴰ·tail m)) (r .not-before));
+        names = names-more e (r .names);
+      }
+
+  pub pairing-rest : (k : ℕ) (named os : List ℕ) (ps : List (List Value)) → length os ≡ length ps → All (λ v. length v ≡ 17) ps
+      → pairing first k named os ps ≡ answered 0 0 0 → Rest first named os ps
+  unfolding pairing
+  pairing-rest k named [] [] l w e = record { within = all-none; once = distinct-none; not-before = all-none; names = names-none }
+  pairing-rest k named [] (p ∷ ps) l w e = absurd (omega (arith, l))
+  pairing-rest k named (o ∷ os) [] l w e = absurd (omega (arith, l))
+  pairing-rest k named (o ∷ os) (p ∷ ps) l (all-more u w) e =
+      go (ltb o (length first)) refl (among o named) refl (differ-from 1 (getD first o []) p) refl e
+      (λ f. pairing-rest (suc k) (o ∷ named) os ps (omega (arith, l)) w f)
+    where
+      go : (s : Bool) → ltb o (length first) ≡ s → (t : Bool) → among o named ≡ t → (d : Option ℕ) → differ-from 1 (getD first o []) p ≡ d
+          → _≡_ {A = Answer}
+          (if not s then answered 18 k 0 else
+          if t then answered 19 k 0 else
+          elim d [ some field ↦ answered 20 k field | none ↦ pairing first (suc k) (o ∷ named) os ps ]) (answered 0 0 0)
+          → (pairing first (suc k) (o ∷ named) os ps ≡ answered 0 0 0 → Rest first (o ∷ named) os ps) → Rest first named (o ∷ os) (p ∷ ps)
+      go false a t b d c f below = refused-answer 18 k 0 (omega arith) f
+      go true a true b d c f below = refused-answer 19 k 0 (omega arith) f
+      go true a false b (some field) c f below = refused-answer 20 k field (omega arith) f
+      go true a false b none c f below =
+          let h = ltb-true o (length first) a in
+          one-pair o os named p ps h (λ m. false-not-true (sym b ∙ among-member m))
+          (no-difference 1 (getD first o []) p (all-getD [] first o wide h ∙ sym u) c) (below f)
+
+  rest-of : {o : ℕ} {os named : List ℕ} {p : List Value} {ps : List (List Value)} → Rest first named (o ∷ os) (p ∷ ps)
+      → (o < length first) × (List·Memᴰ o named → ⊥) × (getD first o [] ≡ p) × Rest first (o ∷ named) os ps
+  rest-of {o} {os} {named} {p} {ps} r = go (r .within) (r .once) (r .not-before) (r .names)
+    where
+      go : All (λ o. o < length first) (o ∷ os) → Distinct (o ∷ os) → All (λ o. List·Memᴰ o named → ⊥) (o ∷ os)
+          → Names same-payment same-payment-says same-payment-tests [] first (o ∷ os) (p ∷ ps)
+          → (o < length first) × (List·Memᴰ o named → ⊥) × (getD first o [] ≡ p) × Rest first (o ∷ named) os ps
+      go (all-more l w) (distinct-more n d) (all-more b c) (names-more e m) = (
+        l,
+        b,
+        e,
+        record {
+          within = w;
+          once = d;
+          not-before = all-from (λ q k j. ⊎-elim (λ f. n (Memᴰ·cast (sym f) k)) (all-member c k) (List·Memᴰ·cases-cons j));
+          names = m;
+        },
+      )
+
+  pub rest-pairing : (k : ℕ) (named os : List ℕ) (ps : List (List Value)) → Rest first named os ps → pairing first k named os ps ≡ answered 0 0 0
+  unfolding pairing
+  rest-pairing k named [] ps r = refl
+  rest-pairing k named (o ∷ os) [] r = refl
+  rest-pairing k named (o ∷ os) (p ∷ ps) r =
+      let q = rest-of r in
+      let e : differ-from 1 (getD first o []) p ≡ none = ap (λ (v : List Value). differ-from 1 v p) (q .2) ∙ equal-no-difference 1 p in
+      go (lt-ltb o (length first) (q .0)) (among-not o named (q .1)) e (rest-pairing (suc k) (o ∷ named) os ps (q .3))
+    where
+      go : {s t : Bool} {d : Option ℕ} → s ≡ true → t ≡ false → d ≡ none → pairing first (suc k) (o ∷ named) os ps ≡ answered 0 0 0
+          → _≡_ {A = Answer}
+          (if not s then answered 18 k 0 else
+          if t then answered 19 k 0 else
+          elim d [ some field ↦ answered 20 k field | none ↦ pairing first (suc k) (o ∷ named) os ps ]) (answered 0 0 0)
+      go a b c e = rw (a, b, c) e

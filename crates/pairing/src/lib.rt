@@ -1,0 +1,1 @@
+// Theorems about regroupings: when one is accepted, and when an acceptable list exists (proofs/).

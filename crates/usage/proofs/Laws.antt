@@ -1,0 +1,59 @@
+-- What is found in a payment and in its block decides refusals 9 and 10.
+use Prim.Native.Nat.{ℕ}
+use native.Mathlib.Omega.{arith}
+use mathlib.Core.List.{List, [], _∷_}
+use mathlib.Core.Option.{Option, none, some}
+use mathlib.Core.Path.{_≡_, refl, sym, ap, _∙_}
+use Rattle.paper.specs.Form.{Element}
+use Rattle.paper.specs.Rows.{rows, row-of, head-of}
+use Rattle.paper.specs.Payments.{Payment, in-payment, in-block}
+use Rattle.paper.specs.Refusals.{Refusal, refuse, in-both, in-neither, _or-else_}
+use Rattle.paper.specs.Answers.{refusal-found, refusal-of, numbered}
+use Rattle.paper.specs.declared.Finding.{Finding}
+use Rattle.paper.specs.declared.Finding.the-variants as finding
+use Rattle.paper.specs.declared.Fault.{Fault}
+use Rattle.paper.specs.declared.Fault.the-variants.{InPaymentAndBlock, InNeither}
+use Rattle.tree.specs.Laid.{Laid}
+use Rattle.tree.proofs.Laws.{Cell, at-cell, entry-of}
+use Rattle.order.specs.Finds.{Finds, child-named}
+use Rattle.order.specs.declared.Found.{Found}
+use Rattle.order.specs.declared.Found.the-variants.{At, Nothing}
+use Rattle.order.proofs.WhatIsFound.{found-none, found-some, FoundAt, own-row, block-row}
+
+module _ (row : ℕ) {s tree name : List ℕ} (p : Payment) (own-name : name ≡ row-of rows 37 row .name) (block-name : name ≡ row-of rows 10 row .name) where
+  pub not-own : {f : Found} → Finds s tree (child-named name (p .own)) f → f ≡ Nothing → refusal-found finding.Nothing ≡ in-both rows row p
+  unfolding refusal-found in-both
+  not-own l e = sym (rw (own-row rows row name p own-name ∙ found-none l e, in-both))
+
+  pub not-block : {f g : Found} {i : ℕ} → Finds s tree (child-named name (p .own)) f → f ≡ At i → Finds s tree (child-named name (p .block)) g → g ≡ Nothing
+      → refusal-found finding.Nothing ≡ in-both rows row p
+  unfolding refusal-found in-both
+  not-block l e k d =
+      sym (rw (own-row rows row name p own-name ∙ found-some l e .is-it, block-row rows row name p block-name ∙ found-none k d, in-both))
+
+  pub both : {f g : Found} {i j at : ℕ} → Finds s tree (child-named name (p .own)) f → f ≡ At i → Finds s tree (child-named name (p .block)) g → g ≡ At j
+      → Cell tree i 0 at → refusal-found (finding.Refused (InPaymentAndBlock row at)) ≡ in-both rows row p
+  unfolding refusal-found refusal-of numbered refuse in-both
+  both {at = at} l e k d c =
+      let t = found-some l e in
+      sym (rw (own-row rows row name p own-name ∙ t .is-it, block-row rows row name p block-name ∙ found-some k d .is-it, in-both)
+      (ap (λ (n : ℕ). refuse 9 row n) (sym (at-cell (entry-of (t .laid)) c))))
+
+  pub own-there : {f : Found} {i : ℕ} → Finds s tree (child-named name (p .own)) f → f ≡ At i → refusal-found finding.Nothing ≡ in-neither rows row p
+  unfolding refusal-found in-neither
+  own-there l e = sym (rw (own-row rows row name p own-name ∙ found-some l e .is-it, in-neither))
+
+  pub block-there : {f g : Found} {i : ℕ} → Finds s tree (child-named name (p .own)) f → f ≡ Nothing → Finds s tree (child-named name (p .block)) g → g ≡ At i
+      → refusal-found finding.Nothing ≡ in-neither rows row p
+  unfolding refusal-found in-neither
+  block-there l e k d =
+      sym (rw (own-row rows row name p own-name ∙ found-none l e, block-row rows row name p block-name ∙ found-some k d .is-it, in-neither))
+
+-- 10 is row 16's
+pub neither : {s tree name : List ℕ} (p : Payment) → name ≡ row-of rows 37 16 .name → name ≡ row-of rows 10 16 .name → {f g : Found} {own m at : ℕ}
+    → Finds s tree (child-named name (p .own)) f → f ≡ Nothing → Finds s tree (child-named name (p .block)) g → g ≡ Nothing → Laid s tree (p .own) own m → Cell tree own 0 at
+    → refusal-found (finding.Refused (InNeither at)) ≡ in-neither rows 16 p
+unfolding refusal-found refusal-of numbered refuse in-neither
+neither {name = name} p own-name block-name l e k d o c =
+    sym (rw (own-row rows 16 name p own-name ∙ found-none l e, block-row rows 16 name p block-name ∙ found-none k d, in-neither)
+    (ap (λ (n : ℕ). refuse 10 16 n) (sym (at-cell (entry-of o) c))))

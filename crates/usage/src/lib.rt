@@ -1,0 +1,66 @@
+// Refusals 9 and 10: rows 16, 36 and 34 in a payment and in its block.
+use order::Found;
+use paper::Fault;
+use paper::Finding;
+ghost use mathlib.Core.Path.{_≡_};
+ghost use Prim.Native.Nat.{ℕ};
+ghost use Rattle.paper.specs.Rows.{rows, row-of};
+ghost use Rattle.paper.specs.Payments.{Payment};
+ghost use Rattle.paper.specs.Refusals.{in-both, in-neither};
+ghost use Rattle.paper.specs.Answers.{refusal-found};
+ghost use Rattle.tree.specs.Laid.{Laid};
+ghost use Rattle.usage.specs.Used.{refusal-in-payment};
+
+// 9: the row of this name stands in the payment `own` and in its block.
+fn in_both(s: &[u8], tree: &[u16], own: usize, block: usize, row: usize, name: &[u8]) -> Finding
+    ensures { λ r. ⌜ ((p : Payment) (m n : ℕ) → Laid (now (s .entry)) (now (tree .entry)) (p .own) own m → Laid (now (s .entry)) (now (tree .entry)) (p .block) block n → now (name .entry) ≡ row-of rows 37 row .name → now (name .entry) ≡ row-of rows 10 row .name → refusal-found r ≡ in-both rows row p) ⌝ }
+{
+    let mine = order::child(s, tree, own, name);
+    let Found::At(i) = mine else {
+        return Finding::Nothing;
+    };
+    let theirs = order::child(s, tree, block, name);
+    let Found::At(_) = theirs else {
+        return Finding::Nothing;
+    };
+    Finding::Refused(Fault::InPaymentAndBlock {
+        element: row,
+        offset: tree::cell(tree, i, 0),
+    })
+}
+
+// 10: row 16 stands in neither.
+fn in_neither(s: &[u8], tree: &[u16], own: usize, block: usize) -> Finding
+    ensures { λ r. ⌜ ((p : Payment) (m n : ℕ) → Laid (now (s .entry)) (now (tree .entry)) (p .own) own m → Laid (now (s .entry)) (now (tree .entry)) (p .block) block n → refusal-found r ≡ in-neither rows 16 p) ⌝ }
+{
+    let mine = order::child(s, tree, own, b"PmtTpInf");
+    if let Found::At(_) = mine {
+        return Finding::Nothing;
+    }
+    let theirs = order::child(s, tree, block, b"PmtTpInf");
+    if let Found::At(_) = theirs {
+        return Finding::Nothing;
+    }
+    Finding::Refused(Fault::InNeither {
+        offset: tree::cell(tree, own, 0),
+    })
+}
+
+// 9 and 10 of one payment: 16, 36, 34.
+pub fn in_payment(s: &[u8], tree: &[u16], own: usize, block: usize) -> Finding
+    ensures { λ r. ⌜ ((p : Payment) (m n : ℕ) → Laid (now (s .entry)) (now (tree .entry)) (p .own) own m → Laid (now (s .entry)) (now (tree .entry)) (p .block) block n → refusal-found r ≡ refusal-in-payment p) ⌝ }
+{
+    let types = in_both(s, tree, own, block, 16, b"PmtTpInf");
+    let Finding::Nothing = types else {
+        return types;
+    };
+    let no_type = in_neither(s, tree, own, block);
+    let Finding::Nothing = no_type else {
+        return no_type;
+    };
+    let charges = in_both(s, tree, own, block, 36, b"ChrgBr");
+    let Finding::Nothing = charges else {
+        return charges;
+    };
+    in_both(s, tree, own, block, 34, b"UltmtDbtr")
+}

@@ -1,0 +1,2 @@
+-- What the answers on a leaf say in the paper's words.
+pub mod Judgements

@@ -1,0 +1,84 @@
+// What a value may be: refusals 6, 7 and 8 for one leaf.
+ghost use mathlib.Core.Path.{_≡_};
+ghost use mathlib.Core.Bool.{_&&_};
+ghost use Rattle.paper.specs.Bytes.{bytes, same, if_then_else_};
+ghost use Rattle.paper.specs.Values.{allowed, amount};
+ghost use Rattle.values.specs.Judgements.{Judges};
+ghost use lib.Dec.{eqb};
+
+// What is said of a leaf's text; specs/Judgements.antt gives the paper's refusal for each case.
+pub enum Judgement {
+    Fine,
+    EmptyOrTooLong,
+    NotInTheSet { at: usize },
+    NotAllowed,
+}
+
+// Row 19: SEPA, and under row 53 SCOR.
+fn service(parent: usize, s: &[u8]) -> bool
+    ensures { λ r. ⌜ r ≡ same (now (s .entry)) (if eqb parent 53 then bytes "SCOR" else bytes "SEPA") ⌝ }
+{
+    if parent == 53 {
+        return texts::same(s, b"SCOR");
+    }
+    texts::same(s, b"SEPA")
+}
+
+// Row 42: the amount and its currency.
+fn amount_in(currency: &[u8], s: &[u8]) -> bool
+    ensures { λ r. ⌜ r ≡ (amount (now (s .entry)) && same (now (currency .entry)) (bytes "EUR")) ⌝ }
+{
+    if !numbers::amount(s) {
+        return false;
+    }
+    texts::same(currency, b"EUR")
+}
+
+// The rule of the leaf's row. Any row that is not named is free.
+pub fn allowed(parent: usize, row: usize, currency: &[u8], s: &[u8]) -> bool
+    ensures { λ r. ⌜ r ≡ allowed parent row (now (currency .entry)) (now (s .entry)) ⌝ }
+{
+    match row {
+        4 | 11 => texts::id(s),
+        39 => texts::id(s),
+        40 => texts::id(s),
+        12 => texts::same(s, b"TRF"),
+        13 => texts::either(s, b"true", b"false"),
+        17 => texts::either(s, b"NORM", b"HIGH"),
+        19 => service(parent, s),
+        33 => texts::same(s, b"NOTPROVIDED"),
+        36 => texts::same(s, b"SLEV"),
+        21 => texts::purpose(s),
+        23 => numbers::date(s),
+        5 => numbers::date_and_time(s),
+        6 | 14 => numbers::count(s),
+        7 | 15 => numbers::money(s),
+        42 => amount_in(currency, s),
+        31 => accounts::bic(s),
+        28 => accounts::iban(s),
+        _ => true,
+    }
+}
+
+// One leaf, tried 6, 7, 8: empty or too long; a character not in the set, with its place in the text; a value not allowed.
+pub fn leaf(parent: usize, row: usize, longest: usize, currency: &[u8], s: &[u8]) -> Judgement
+    ensures { λ r. ⌜ Judges parent row longest (now (currency .entry)) (now (s .entry)) r ⌝ }
+{
+    if s.len() < 1 {
+        return Judgement::EmptyOrTooLong;
+    }
+    if longest < s.len() {
+        return Judgement::EmptyOrTooLong;
+    }
+    let at = texts::first_outside(s);
+    if at < s.len() {
+        return Judgement::NotInTheSet { at };
+    }
+    if texts::spaces_alone(s) {
+        return Judgement::NotAllowed;
+    }
+    if !allowed(parent, row, currency, s) {
+        return Judgement::NotAllowed;
+    }
+    Judgement::Fine
+}
