@@ -1,5 +1,6 @@
 -- Spans and rows of the table.
-use Prim.Native.Nat.{ℕ, suc, _+_, _*_, _-_, _≤_, _<_}
+use Prim.Native.Nat.{ℕ, suc, _+_, _*_, _/_, _%_, _-_, _≤_, _<_}
+use native.Mathlib.Nat.{mod-eq-of-lt}
 use native.Mathlib.Omega.{arith}
 use native.Mathlib.Numerals.{add-one}
 use mathlib.Core.List.{List, [], _∷_, _++_}
@@ -10,21 +11,23 @@ use lib.Seq.{paste, paste-suc, length-paste}
 use Rattle.paper.specs.Form.{Element}
 use Rattle.paper.specs.Bytes.{bytes}
 use Rattle.paper.specs.Rows.{head-of, rows, row-of, leaf, group, group-under}
-use Rattle.paper.specs.Payments.{Payment, inherited}
+use Rattle.paper.specs.Payments.{Payment, inherited, amount-of}
 use Rattle.paper.specs.Fields.{either-of}
-use Rattle.paper.specs.Table.{Part, part-of}
+use Rattle.paper.specs.Table.{Part, part-of, two-numbers, numbers-of}
 use Rattle.tree.proofs.Laws.{Cell, start-cell, close-cell, entry-of}
 use Rattle.order.specs.Finds.{Finds, along, names-of}
 use Rattle.order.specs.declared.Found.{Found}
 use Rattle.order.specs.declared.Found.the-variants.{At, Nothing}
 use Rattle.order.proofs.Fields.{inherited-along}
 use Rattle.order.proofs.WhatIsFound.{found-none, found-some}
-use Rattle.table.specs.Rows.{SpanIs}
+use Rattle.table.specs.Rows.{SpanIs, SpansOf, Fitting}
+use Rattle.table.specs.declared.Span.{Span}
+use Rattle.table.specs.declared.Spans.{Spans}
 
 module _ {s tree : List ℕ} {o : Option Element} {f : Found} (h : Finds s tree o f) where
-  pub nothing : f ≡ Nothing → SpanIs (part-of o) (record { start = 0; size = 0 })
+  pub nothing : f ≡ Nothing → SpanIs s (part-of o) (record { start = 0; size = 0 })
   unfolding part-of
-  nothing e = rw (found-none h e) (record { start-is = refl; size-is = refl })
+  nothing e = rw (found-none h e) (record { start-is = refl; size-is = refl; start-inside = omega arith; size-inside = omega arith })
 
   module _ {i start close : ℕ} (e : f ≡ At i) (a : Cell tree i 2 start) (b : Cell tree i 3 close) where
     pub never-ends-first : {A : Type 0} → close < start → A
@@ -33,12 +36,21 @@ module _ {s tree : List ℕ} {o : Option Element} {f : Found} (h : Finds s tree 
         let r = entry-of (t .laid) in
         absurd (omega (arith, start-cell r a, close-cell r b, r .written .start-first))
 
-    pub held : SpanIs (part-of o) (record { start = start; size = close - start })
+    pub held : SpanIs s (part-of o) (record { start = start; size = close - start })
     unfolding part-of
     held =
         let t = found-some h e in
         let r = entry-of (t .laid) in
-        rw (t .is-it) (record { start-is = start-cell r a; size-is = rw (start-cell r a, close-cell r b) })
+        let p = start-cell r a in
+        let q = close-cell r b in
+        let w = r .written in
+        rw (t .is-it)
+        (record {
+          start-is = p;
+          size-is = rw (p, q);
+          start-inside = omega (arith, p, w .start-first, w .close-inside);
+          size-inside = omega (arith, p, q, w .close-inside)
+        })
 
 -- one more number of a row
 pub pasted : (d : List ℕ) (at : ℕ) (numbers : List ℕ) (k : ℕ) {table : List ℕ} → table ≡ paste d at numbers k → at + k < length d → k < length numbers
@@ -56,3 +68,37 @@ pub kind-found : {s tree : List ℕ} {f : Found} (p : Payment)
   → Finds s tree (either-of (along (bytes "PmtTpInf" ∷ []) (some (p .own))) (along (bytes "PmtTpInf" ∷ []) (some (p .block)))) f → Finds s tree (inherited rows (16 ∷ []) p) f
 unfolding names-of row-of rows leaf group group-under bytes
 kind-found {s} {tree} {f} p h = subst (λ (o : Option Element). Finds s tree o f) (sym (inherited-along (16 ∷ []) p refl refl)) h
+
+-- the sixteen numbers of a payment, none of which is cut
+module _ {s : List ℕ} {p : Payment} {of : Spans} (w : length s ≤ 32768) (o : SpansOf s p of) where
+  uncut : {x y : ℕ} → x < 4294967296 → x ≡ y → x % 4294967296 ≡ y
+  uncut h e = mod-eq-of-lt h ∙ e
+
+  start-uncut : {part : Part} {r : Span} → SpanIs s part r → r .start % 4294967296 ≡ part .start
+  start-uncut i = uncut (omega (arith, i .start-inside, w)) (i .start-is)
+
+  size-uncut : {part : Part} {r : Span} → SpanIs s part r → r .size % 4294967296 ≡ part .size
+  size-uncut i = uncut (omega (arith, i .size-inside, w)) (i .size-is)
+
+  pub the-row : {number cents at : ℕ} {row : List ℕ} → Fitting p → number ≡ p .block-number → cents ≡ amount-of rows (p .own) → at ≡ head-of (p .own) .at → at ≤ length s
+    → row ≡ number % 4294967296 ∷ of .id .start % 4294967296 ∷ of .id .size % 4294967296 ∷ of .creditor .start % 4294967296 ∷ of .creditor .size % 4294967296 ∷ of .name .start % 4294967296 ∷ of .name .size % 4294967296 ∷ of .ultimate .start % 4294967296 ∷ of .ultimate .size % 4294967296 ∷ of .kind .start % 4294967296 ∷ of .kind .size % 4294967296 ∷ of .debtor .start % 4294967296 ∷ of .debtor .size % 4294967296 ∷ cents / 100 % 4294967296 ∷ cents % 100 ∷ at % 4294967296 ∷ []
+    → row ≡ numbers-of rows p
+  unfolding numbers-of two-numbers
+  the-row {number} {cents} {at} f n c a b e =
+      let e0 : number % 4294967296 ≡ p .block-number = uncut (omega (arith, n, f .numbered)) n in
+      let e1 = start-uncut (o .id) in
+      let e2 = size-uncut (o .id) in
+      let e3 = start-uncut (o .creditor) in
+      let e4 = size-uncut (o .creditor) in
+      let e5 = start-uncut (o .name) in
+      let e6 = size-uncut (o .name) in
+      let e7 = start-uncut (o .ultimate) in
+      let e8 = size-uncut (o .ultimate) in
+      let e9 = start-uncut (o .kind) in
+      let e10 = size-uncut (o .kind) in
+      let e11 = start-uncut (o .debtor) in
+      let e12 = size-uncut (o .debtor) in
+      let e13 : cents / 100 % 4294967296 ≡ amount-of rows (p .own) / 100 = uncut (omega (arith, c, f .small)) (ap (λ (x : ℕ). x / 100) c) in
+      let e14 : cents % 100 ≡ amount-of rows (p .own) % 100 = ap (λ (x : ℕ). x % 100) c in
+      let e15 : at % 4294967296 ≡ head-of (p .own) .at = uncut (omega (arith, b, w)) a in
+      e ∙ rw (e0, e1, e2, e3, e4, e5, e6, e7, e8, e9, e10, e11, e12, e13, e14, e15)

@@ -1,18 +1,20 @@
 // The lent table after acceptance: sixteen numbers for each payment.
-use numbers::Reading;
 use order::Found;
 ghost use mathlib.Core.Path.{_≡_};
-ghost use mathlib.Core.List.{List, [], _∷_};
+ghost use mathlib.Core.List.{List, [], _∷_, _++_};
 ghost use mathlib.Core.Option.{Option};
 ghost use Prim.Native.Nat.{ℕ, _+_, _*_, _/_, _%_, _≤_, _<_};
-ghost use lib.ListN.{length};
+ghost use lib.ListN.{length, drop};
 ghost use lib.Seq.{paste};
 ghost use Rattle.paper.specs.Form.{Element};
-ghost use Rattle.paper.specs.Payments.{Payment};
-ghost use Rattle.paper.specs.Table.{part-of};
+ghost use Rattle.paper.specs.Rows.{rows};
+ghost use Rattle.paper.specs.Payments.{Payment, payments};
+ghost use Rattle.paper.specs.Table.{part-of, numbers-of, all-numbers};
+ghost use Rattle.paper.specs.Accepted.{All};
 ghost use Rattle.tree.specs.Laid.{Laid};
 ghost use Rattle.order.specs.Finds.{Finds};
-ghost use Rattle.table.specs.Rows.{SpanIs, SpansOf};
+ghost use Rattle.order.specs.Ordered.{Ordered};
+ghost use Rattle.table.specs.Rows.{SpanIs, SpansOf, Fitting};
 
 // A part of the message.
 pub struct Span {
@@ -32,7 +34,7 @@ pub struct Spans {
 
 // The part that an element holds; 0, 0 where there is none.
 pub fn span_of(tree: &[u16], found: Found) -> Span
-    ensures { λ r. ⌜ ((s : List ℕ) (o : Option Element) → Finds s (now (tree .entry)) o found → SpanIs (part-of o) r) ⌝ }
+    ensures { λ r. ⌜ ((s : List ℕ) (o : Option Element) → Finds s (now (tree .entry)) o found → SpanIs s (part-of o) r) ⌝ }
 {
     let Found::At(i) = found else {
         return Span { start: 0, size: 0 };
@@ -49,7 +51,7 @@ pub fn span_of(tree: &[u16], found: Found) -> Span
 }
 
 fn spans_of(s: &[u8], tree: &[u16], own: usize, block: usize) -> Spans
-    ensures { λ r. ⌜ ((p : Payment) (m n : ℕ) → Laid (now (s .entry)) (now (tree .entry)) (p .own) own m → Laid (now (s .entry)) (now (tree .entry)) (p .block) block n → SpansOf p r) ⌝ }
+    ensures { λ r. ⌜ ((p : Payment) (m n : ℕ) → Laid (now (s .entry)) (now (tree .entry)) (p .own) own m → Laid (now (s .entry)) (now (tree .entry)) (p .block) block n → SpansOf (now (s .entry)) p r) ⌝ }
 {
     let id = span_of(tree, order::field_at(s, tree, own, block, 10));
     let creditor = span_of(tree, order::field_at(s, tree, own, block, 14));
@@ -97,6 +99,32 @@ fn put(table: &mut [u32], at: usize, numbers: [u32; 16])
     let mut k = 0;
     while k < 16 {
         table[at + k] = numbers[k];
+        k += 1;
+    }
+}
+
+// The sixteen numbers of the payment `own` in its block.
+fn numbers_of(s: &[u8], tree: &[u16], own: usize, block: usize, number: usize) -> [u32; 16]
+    ensures { λ r. ⌜ (length (now (s .entry)) ≤ 32768 → (p : Payment) (m n : ℕ) → Laid (now (s .entry)) (now (tree .entry)) (p .own) own m → Laid (now (s .entry)) (now (tree .entry)) (p .block) block n → Fitting p → number ≡ p .block-number → r ≡ numbers-of rows p) ⌝ }
+{
+    let of = spans_of(s, tree, own, block);
+    let cents = counts::amount(s, tree, own);
+    row(number, of, cents, tree::cell(tree, own, 0))
+}
+
+// Each payment's numbers, in the order of the payments; every later number stays.
+pub fn fill(s: &[u8], tree: &[u16], order: &[u16], many: usize, table: &mut [u32])
+    ensures { λ r. ⌜ (length (now (s .entry)) ≤ 32768 → (root : Element) → Ordered (now (s .entry)) (now (tree .entry)) (now (order .entry)) root → many ≡ length (payments rows root) → many ≤ 64 → All Fitting (payments rows root) → 1024 ≤ length (now (table .entry)) → now (table .exit) ≡ all-numbers rows (payments rows root) ++ drop (16 * length (payments rows root)) (now (table .entry))) ⌝ }
+{
+    let mut k = 0;
+    while k < many {
+        if 64 <= k {
+            return;
+        }
+        let own = tree::number(order, 16 + 3 * k);
+        let block = tree::number(order, 17 + 3 * k);
+        let number = tree::number(order, 18 + 3 * k);
+        put(table, 16 * k, numbers_of(s, tree, own, block, number));
         k += 1;
     }
 }
