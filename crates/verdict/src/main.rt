@@ -1,0 +1,88 @@
+// The verdict on the message on standard input: one line, and where it is accepted one more for each payment: ordinal, block, debtor IBAN, creditor IBAN, cents
+// and end-to-end id.
+use libc::STDIN_FILENO;
+use paper::Verdict;
+
+fn wide(x: u32) -> u64 {
+    x as u64
+}
+
+// Number k of payment i, 0 where the table has none.
+fn number(table: &[u32], i: usize, k: usize) -> u64 {
+    if 64 <= i {
+        return 0;
+    }
+    if 16 <= k {
+        return 0;
+    }
+    let at = 16 * i + k;
+    if table.len() <= at {
+        return 0;
+    }
+    wide(table[at])
+}
+
+fn part(message: &[u8], table: &[u32], i: usize, k: usize) {
+    printing::part(message, number(table, i, k) as usize, number(table, i, k + 1) as usize);
+}
+
+fn cents(table: &[u32], i: usize) -> u64 {
+    let euros = number(table, i, 13);
+    let rest = number(table, i, 14);
+    if 4294967295 < euros {
+        return 0;
+    }
+    if 4294967295 < rest {
+        return 0;
+    }
+    euros * 100 + rest
+}
+
+fn payment(message: &[u8], table: &[u32], i: usize) {
+    printing::number(i as u64);
+    printing::text(b" ");
+    printing::number(number(table, i, 0));
+    printing::text(b" ");
+    part(message, table, i, 11);
+    printing::text(b" ");
+    part(message, table, i, 3);
+    printing::text(b" ");
+    printing::number(cents(table, i));
+    printing::text(b" ");
+    part(message, table, i, 1);
+    printing::text(b"\n");
+}
+
+fn accepted(message: &[u8], table: &[u32], blocks: usize, payments: usize, cents: u64) {
+    printing::text(b"ACCEPTED blocks=");
+    printing::number(blocks as u64);
+    printing::text(b" payments=");
+    printing::number(payments as u64);
+    printing::text(b" cents=");
+    printing::number(cents);
+    printing::text(b"\n");
+    let mut i = 0;
+    while i < payments {
+        payment(message, table, i);
+        i += 1;
+    }
+}
+
+fn report(message: &[u8], table: &mut [u32]) {
+    let verdict = reader::verdict(message, table);
+    match verdict {
+        Verdict::Refused(fault) => printing::refused(fault),
+        Verdict::Accepted {
+            blocks,
+            payments,
+            cents,
+        } => accepted(message, table, blocks, payments, cents),
+    }
+}
+
+fn main() {
+    let mut message = [0u8; 32769];
+    let mut table = [0u32; 1024];
+    let n = io::read_full(STDIN_FILENO, &mut message);
+    report(&message[..n], &mut table);
+}
