@@ -13,7 +13,11 @@ pub struct Refusal {
 fn at(number: usize, element: usize, offset: usize) -> Refusal
     ensures { λ r. ⌜ r ≡ record { number = number; element = element; offset = offset } ⌝ }
 {
-    Refusal { number, element, offset }
+    Refusal {
+        number,
+        element,
+        offset,
+    }
 }
 
 pub fn refusal_of(fault: Fault) -> Refusal

@@ -41,7 +41,7 @@ small-amount p c = go (follow rows 37 (41 ∷ 42 ∷ []) (p .own)) refl
 
 -- three facts of each payment together
 zipped : {l : List Payment} → All ReadPayment l → All (λ (p : Payment). (u : Element) → follow rows 37 (41 ∷ 42 ∷ []) (p .own) ≡ some u → cents (text-of u) ≤ 99999999999) l
-  → All (λ (p : Payment). p .block-number < 65536) l → All Fitting l
+    → All (λ (p : Payment). p .block-number < 65536) l → All Fitting l
 zipped all-none all-none all-none = all-none
 zipped (all-more {a = p} r h) (all-more c k) (all-more n m) = all-more (record { amount = r .amount; small = small-amount p c; numbered = n }) (zipped h k m)
 

@@ -23,14 +23,14 @@ use Rattle.counts.specs.Counted.{ReadBlock, ReadPayment, Readable}
 
 -- a right count of a row that takes at most fifteen bytes; right money; a right amount
 count-read : (parent k : ℕ) {h : Head} {w : List ℕ} → RightText parent (row-of rows parent k) h w → longest-of (row-of rows parent k .holds) ≡ 15
-  → ((currency : List ℕ) → allowed parent (row-of rows parent k .row) currency w ≡ count w) → digits 1 15 w ≡ true
+    → ((currency : List ℕ) → allowed parent (row-of rows parent k .row) currency w ≡ count w) → digits 1 15 w ≡ true
 unfolding digits lies-from count
 count-read parent k {w = w} r l a =
     both (both (le-leb 1 (length w) (r .not-empty)) (le-leb (length w) 15 (omega (arith, r .not-too-long, l))))
     (both-right (leb 1 (length w)) (every digit w) (sym (a _) ∙ r .value))
 
 money-read : (parent k : ℕ) {h : Head} {w : List ℕ} → RightText parent (row-of rows parent k) h w
-  → ((currency : List ℕ) → allowed parent (row-of rows parent k .row) currency w ≡ money w) → money w ≡ true
+    → ((currency : List ℕ) → allowed parent (row-of rows parent k .row) currency w ≡ money w) → money w ≡ true
 money-read parent k r a = sym (a _) ∙ r .value
 
 amount-read : {h : Head} {w : List ℕ} → RightText 41 (row-of rows 41 42) h w → amount w ≡ true
@@ -59,7 +59,7 @@ module _ (root : Element) (right : values-refusal rows root ≡ none) where
   in-block b c =
       record {
         count = λ t e. count-read 10 14 (block-leaf-right b c 14 15 t refl refl e) refl (λ _. refl);
-        sum = λ t e. money-read 10 15 (block-leaf-right b c 15 18 t refl refl e) (λ _. refl)
+        sum = λ t e. money-read 10 15 (block-leaf-right b c 15 18 t refl refl e) (λ _. refl);
       }
 
   pub readable : Readable root
@@ -68,7 +68,7 @@ module _ (root : Element) (right : values-refusal rows root ≡ none) where
         header-count = header-count;
         header-sum = header-sum;
         in-blocks = all-map in-block (blocks-right root right);
-        in-payments = all-map (λ p c. record { amount = λ u e. amount-money (text-of u) (amount-read (amount-right (p .own) c u e)) }) (payments-right root right)
+        in-payments = all-map (λ p c. record { amount = λ u e. amount-money (text-of u) (amount-read (amount-right (p .own) c u e)) }) (payments-right root right);
       }
 
   -- the amounts of the payments lie within row 42's limits

@@ -61,7 +61,7 @@ pub shaped-refused : (s tree : List ℕ) {f : Form} {n : ℕ} → Says s f → f
 shaped-refused s tree {n = n} says e h = not-shaped (not-of-the-form s h (refusal-is-stop s n (says-refused s says e)))
 
 pub shaped-form : (s tree : List ℕ) {f : Form} {next : ℕ} → Says s f → f ≡ OfTheForm → length s ≤ 32768
-  → ((root : Element) → IsMessage s root → Laid s tree root 0 next) → Shaped s tree finding.Nothing
+    → ((root : Element) → IsMessage s root → Laid s tree root 0 next) → Shaped s tree finding.Nothing
 shaped-form s tree says e h lays =
     let r = form-is-root s (says-form s says e) in
     is-shaped h (r .1) (lays (r .0) (sound s (r .0) (r .1)))
@@ -105,7 +105,7 @@ module _ {s tree order : List ℕ} {root : Element} {t : Total} (h : Totals root
     counts-refused d = refuses (rw (total-fits h e .0) (found-refused is d))
 
     pub all-passed : {b p : ℕ} → f ≡ finding.Nothing → Ordered s tree order root → b ≡ length (blocks rows root) → p ≡ length (payments rows root) → p ≤ 64 → b ≤ 16
-      → values-refusal rows root ≡ none → Passes s tree order root (total-refusal rows root or-else counts-refusal rows root) (Accepted b p n)
+        → values-refusal rows root ≡ none → Passes s tree order root (total-refusal rows root or-else counts-refusal rows root) (Accepted b p n)
     unfolding _or-else_
     all-passed {b} {p} d o x y few small v =
         accepts (rw (total-fits h e .0) (found-none is d))
@@ -116,7 +116,7 @@ module _ {s tree order : List ℕ} {root : Element} {t : Total} (h : Totals root
           few = few;
           total-is = total-fits h e .1;
           readable = readable root v;
-          fitting = fits root v (omega (arith, x, small))
+          fitting = fits root v (omega (arith, x, small));
         })
 
 pub the-total : {root : Element} {t : Total} {n : ℕ} → Totals root t → t ≡ totalled.Cents n → n ≡ total rows root
@@ -137,7 +137,7 @@ module _ {s tree order : List ℕ} {root : Element} {f : Finding} (is : refusal-
     limits-refused {element} {offset} e = later-passes _ _ is d (go within e)
       where
         go : {l : Limits} → Limited s tree order root l → l ≡ Excess element offset
-          → Passes s tree order root (limits-refusal rows root or-else (values-refusal rows root or-else (usage-refusal rows root or-else (ids-refusal rows root or-else (total-refusal rows root or-else counts-refusal rows root)))))
+            → Passes s tree order root (limits-refusal rows root or-else (values-refusal rows root or-else (usage-refusal rows root or-else (ids-refusal rows root or-else (total-refusal rows root or-else counts-refusal rows root)))))
             (Refused (TooMany element offset))
         go (is-within a b c o) e = let z : _≡_ {A = ℕ} 0 1 = cc in absurd (omega (arith, z))
         go (is-excess {element = x} {offset = y} a) e =
@@ -146,14 +146,14 @@ module _ {s tree order : List ℕ} {root : Element} {f : Finding} (is : refusal-
             refuses (rw a (ap (λ (n : ℕ). refuse 5 n y) g ∙ ap (λ (n : ℕ). refuse 5 element n) h))
 
     pub limits-passed : {b p : ℕ} {v : Verdict} → l ≡ Within b p → 208 ≤ length order
-      → (Ordered s tree order root → b ≡ length (blocks rows root) → p ≡ length (payments rows root)
+        → (Ordered s tree order root → b ≡ length (blocks rows root) → p ≡ length (payments rows root)
         → Passes s tree order root (values-refusal rows root or-else (usage-refusal rows root or-else (ids-refusal rows root or-else (total-refusal rows root or-else counts-refusal rows root)))) v)
-      → Passes s tree order root (tree-refusal rows root) v
+        → Passes s tree order root (tree-refusal rows root) v
     unfolding tree-refusal _or-else_
     limits-passed {b} {p} {v} e room then = later-passes _ _ is d (go within e)
       where
         go : {l : Limits} → Limited s tree order root l → l ≡ Within b p
-          → Passes s tree order root (limits-refusal rows root or-else (values-refusal rows root or-else (usage-refusal rows root or-else (ids-refusal rows root or-else (total-refusal rows root or-else counts-refusal rows root))))) v
+            → Passes s tree order root (limits-refusal rows root or-else (values-refusal rows root or-else (usage-refusal rows root or-else (ids-refusal rows root or-else (total-refusal rows root or-else counts-refusal rows root))))) v
         go (is-within {b = x} {p = y} a m n o) e =
             let g : x ≡ b = cc in
             let h : y ≡ p = cc in
@@ -170,7 +170,7 @@ unfolding unless-refused
 outcome-accepted e = rw e
 
 decide : {s tree order : List ℕ} {root : Element} {next : ℕ} → length s ≤ 32768 → read s ≡ root-is root → Laid s tree root 0 next → {v : Verdict}
-  → Passes s tree order root (tree-refusal rows root) v → Decided s tree order v
+    → Passes s tree order root (tree-refusal rows root) v → Decided s tree order v
 decide {s} l r t (refuses e) = decided-refused (of-the-form s l r ∙ outcome-refused e)
 decide {s} l r t (accepts e p) = decided-accepted l (of-the-form s l r ∙ outcome-accepted e) t p
 

@@ -45,4 +45,4 @@ pub data Passes (s tree order : List ℕ) (root : Element) (refusal : Option Ref
 pub data Decided (s tree order : List ℕ) : Verdict → Type 0 where
   decided-refused : {f : Fault} → outcome-alone rows s ≡ refused-as (refusal-of f) → Decided s tree order (Refused f)
   decided-accepted : {root : Element} {next b p c : ℕ} → length s ≤ 32768 → outcome-alone rows s ≡ accepted-with root → Laid s tree root 0 next
-    → Placed s tree order root b p c → Decided s tree order (Accepted b p c)
+      → Placed s tree order root b p c → Decided s tree order (Accepted b p c)

@@ -44,7 +44,11 @@ fn sums(s: &[u8], tree: &[u16], order: &[u16], blocks: usize, payments: usize) -
             let found = counts::counts(s, tree, order, blocks, payments, cents);
             match found {
                 Finding::Refused(fault) => Verdict::Refused(fault),
-                Finding::Nothing => Verdict::Accepted { blocks, payments, cents },
+                Finding::Nothing => Verdict::Accepted {
+                    blocks,
+                    payments,
+                    cents,
+                },
             }
         }
     }

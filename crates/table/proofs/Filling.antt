@@ -20,7 +20,7 @@ pub one-row : (done row old : List ℕ) (n : ℕ) → length done ≡ n → leng
 one-row done row old n e f =
     let a : take n (done ++ drop n old) ≡ done = take-at done (drop n old) n e in
     let b : drop (n + 16) (done ++ drop n old) ≡ drop (n + 16) old =
-      ap (λ (m : ℕ). drop (m + 16) (done ++ drop n old)) (sym e) ∙ drop-append-add done (drop n old) 16 ∙ drop-drop 16 n old in
+    ap (λ (m : ℕ). drop (m + 16) (done ++ drop n old)) (sym e) ∙ drop-append-add done (drop n old) 16 ∙ drop-drop 16 n old in
     rw (a, b, take-all 16 row (omega (arith, f)))
 
 pub numbers-length : (p : Payment) → length (numbers-of rows p) ≡ 16
@@ -65,18 +65,18 @@ module _ {P : Payment → Type 0} {s tree order old : List ℕ} {root : Element}
 
     -- one more payment, whose numbers were put in their place
     pub one-filled : {own block number : ℕ} {row after : List ℕ} → k < many → own ≡ getD order (16 + 3 * k) 0 → block ≡ getD order (17 + 3 * k) 0 → number ≡ getD order (18 + 3 * k) 0
-      → ((p : Payment) (m n : ℕ) → Laid s tree (p .own) own m → Laid s tree (p .block) block n → P p → number ≡ p .block-number → row ≡ numbers-of rows p)
-      → after ≡ paste table (16 * k) row 16 → Filled P s tree order old root many (k + 1) after
+        → ((p : Payment) (m n : ℕ) → Laid s tree (p .own) own m → Laid s tree (p .block) block n → P p → number ≡ p .block-number → row ≡ numbers-of rows p)
+        → after ≡ paste table (16 * k) row 16 → Filled P s tree order old root many (k + 1) after
     one-filled {own} {block} {number} {row} {after} l o b n r e = go (f .rest) (f .stand) (f .each) (f .split) (f .as-many)
       where
         go : (rest : List Payment) → PaymentsAt s tree order k rest → All P rest → payments rows root ≡ f .done ++ rest → k + length rest ≡ many
-          → Filled P s tree order old root many (k + 1) after
+            → Filled P s tree order old root many (k + 1) after
         go [] t h d a = absurd (omega (arith, a))
         go (p ∷ ps) (more-payments at t) (all-more q h) d a =
             let next-row : 16 * k + 16 ≡ 16 * (k + 1) = omega arith in
             let is : row ≡ numbers-of rows p =
-              r p (at .own-next) (at .block-next) (subst (λ (i : ℕ). Laid s tree (p .own) i (at .own-next)) (sym o) (at .own-is))
-              (subst (λ (i : ℕ). Laid s tree (p .block) i (at .block-next)) (sym b) (at .block-is)) q (n ∙ at .number-is) in
+            r p (at .own-next) (at .block-next) (subst (λ (i : ℕ). Laid s tree (p .own) i (at .own-next)) (sym o) (at .own-is))
+            (subst (λ (i : ℕ). Laid s tree (p .block) i (at .block-next)) (sym b) (at .block-is)) q (n ∙ at .number-is) in
             record {
               done = f .done ++ (p ∷ []);
               rest = ps;
@@ -86,8 +86,8 @@ module _ {P : Payment → Type 0} {s tree order old : List ℕ} {root : Element}
               each = h;
               as-many = omega (arith, a);
               holds =
-                e ∙ rw (f .holds, is)
-                (one-row (all-numbers rows (f .done)) (numbers-of rows p) old (16 * k) (all-numbers-length (f .done) ∙ ap (λ (m : ℕ). 16 * m) (f .at-done)) (numbers-length p) ∙
-                ap (λ (x : List ℕ). x ++ drop (16 * k + 16) old) (sym (all-numbers-more (f .done) p)) ∙
-                ap (λ (m : ℕ). all-numbers rows (f .done ++ (p ∷ [])) ++ drop m old) next-row)
+                  e ∙ rw (f .holds, is)
+                  (one-row (all-numbers rows (f .done)) (numbers-of rows p) old (16 * k) (all-numbers-length (f .done) ∙ ap (λ (m : ℕ). 16 * m) (f .at-done)) (numbers-length p) ∙
+                  ap (λ (x : List ℕ). x ++ drop (16 * k + 16) old) (sym (all-numbers-more (f .done) p)) ∙
+                  ap (λ (m : ℕ). all-numbers rows (f .done ++ (p ∷ [])) ++ drop m old) next-row);
             }

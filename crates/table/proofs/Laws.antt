@@ -14,7 +14,8 @@ use Rattle.paper.specs.Rows.{head-of, rows, row-of, leaf, group, group-under}
 use Rattle.paper.specs.Payments.{Payment, inherited, amount-of}
 use Rattle.paper.specs.Fields.{either-of}
 use Rattle.paper.specs.Table.{Part, part-of, two-numbers, numbers-of}
-use Rattle.tree.proofs.Laws.{Cell, start-cell, close-cell, entry-of}
+use Rattle.tree.specs.Laid.{Laid}
+use Rattle.tree.proofs.Laws.{Cell, at-cell, start-cell, close-cell, entry-of}
 use Rattle.order.specs.Finds.{Finds, along, names-of}
 use Rattle.order.specs.declared.Found.{Found}
 use Rattle.order.specs.declared.Found.the-variants.{At, Nothing}
@@ -49,12 +50,12 @@ module _ {s tree : List ℕ} {o : Option Element} {f : Found} (h : Finds s tree 
           start-is = p;
           size-is = rw (p, q);
           start-inside = omega (arith, p, w .start-first, w .close-inside);
-          size-inside = omega (arith, p, q, w .close-inside)
+          size-inside = omega (arith, p, q, w .close-inside);
         })
 
 -- one more number of a row
 pub pasted : (d : List ℕ) (at : ℕ) (numbers : List ℕ) (k : ℕ) {table : List ℕ} → table ≡ paste d at numbers k → at + k < length d → k < length numbers
-  → set table (at + k) (getD numbers k 0) ≡ paste d at numbers (k + 1)
+    → set table (at + k) (getD numbers k 0) ≡ paste d at numbers (k + 1)
 pasted d at numbers k e l m = rw (e, add-one) (paste-suc d at numbers k 0 l m)
 
 pub pasted-length : (d : List ℕ) (at : ℕ) (numbers : List ℕ) (k : ℕ) {table : List ℕ} → table ≡ paste d at numbers k → at + k ≤ length d → k ≤ length numbers → length table ≡ length d
@@ -65,7 +66,7 @@ pasted-all d at numbers k e f = f ∙ ap (λ (n : ℕ). paste d at numbers n) e
 
 -- the contents of row 16, the payment's or else its block's
 pub kind-found : {s tree : List ℕ} {f : Found} (p : Payment)
-  → Finds s tree (either-of (along (bytes "PmtTpInf" ∷ []) (some (p .own))) (along (bytes "PmtTpInf" ∷ []) (some (p .block)))) f → Finds s tree (inherited rows (16 ∷ []) p) f
+    → Finds s tree (either-of (along (bytes "PmtTpInf" ∷ []) (some (p .own))) (along (bytes "PmtTpInf" ∷ []) (some (p .block)))) f → Finds s tree (inherited rows (16 ∷ []) p) f
 unfolding names-of row-of rows leaf group group-under bytes
 kind-found {s} {tree} {f} p h = subst (λ (o : Option Element). Finds s tree o f) (sym (inherited-along (16 ∷ []) p refl refl)) h
 
@@ -81,8 +82,8 @@ module _ {s : List ℕ} {p : Payment} {of : Spans} (w : length s ≤ 32768) (o :
   size-uncut i = uncut (omega (arith, i .size-inside, w)) (i .size-is)
 
   pub the-row : {number cents at : ℕ} {row : List ℕ} → Fitting p → number ≡ p .block-number → cents ≡ amount-of rows (p .own) → at ≡ head-of (p .own) .at → at ≤ length s
-    → row ≡ number % 4294967296 ∷ of .id .start % 4294967296 ∷ of .id .size % 4294967296 ∷ of .creditor .start % 4294967296 ∷ of .creditor .size % 4294967296 ∷ of .name .start % 4294967296 ∷ of .name .size % 4294967296 ∷ of .ultimate .start % 4294967296 ∷ of .ultimate .size % 4294967296 ∷ of .kind .start % 4294967296 ∷ of .kind .size % 4294967296 ∷ of .debtor .start % 4294967296 ∷ of .debtor .size % 4294967296 ∷ cents / 100 % 4294967296 ∷ cents % 100 ∷ at % 4294967296 ∷ []
-    → row ≡ numbers-of rows p
+      → row ≡ number % 4294967296 ∷ of .id .start % 4294967296 ∷ of .id .size % 4294967296 ∷ of .creditor .start % 4294967296 ∷ of .creditor .size % 4294967296 ∷ of .name .start % 4294967296 ∷ of .name .size % 4294967296 ∷ of .ultimate .start % 4294967296 ∷ of .ultimate .size % 4294967296 ∷ of .kind .start % 4294967296 ∷ of .kind .size % 4294967296 ∷ of .debtor .start % 4294967296 ∷ of .debtor .size % 4294967296 ∷ cents / 100 % 4294967296 ∷ cents % 100 ∷ at % 4294967296 ∷ []
+      → row ≡ numbers-of rows p
   unfolding numbers-of two-numbers
   the-row {number} {cents} {at} f n c a b e =
       let e0 : number % 4294967296 ≡ p .block-number = uncut (omega (arith, n, f .numbered)) n in
@@ -102,3 +103,10 @@ module _ {s : List ℕ} {p : Payment} {of : Spans} (w : length s ≤ 32768) (o :
       let e14 : cents % 100 ≡ amount-of rows (p .own) % 100 = ap (λ (x : ℕ). x % 100) c in
       let e15 : at % 4294967296 ≡ head-of (p .own) .at = uncut (omega (arith, b, w)) a in
       e ∙ rw (e0, e1, e2, e3, e4, e5, e6, e7, e8, e9, e10, e11, e12, e13, e14, e15)
+
+-- an element stands inside the message
+pub own-inside : {s tree : List ℕ} {t : Element} {i next at : ℕ} → Laid s tree t i next → Cell tree i 0 at → at ≤ length s
+own-inside l c =
+    let r = entry-of l in
+    let w = r .written in
+    omega (arith, at-cell r c, w .name-inside, w .start-first, w .close-inside)

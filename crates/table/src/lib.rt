@@ -59,7 +59,14 @@ fn spans_of(s: &[u8], tree: &[u16], own: usize, block: usize) -> Spans
     let ultimate = span_of(tree, order::field_at(s, tree, own, block, 8));
     let kind = span_of(tree, order::inherited1(s, tree, own, block, b"PmtTpInf"));
     let debtor = span_of(tree, order::field_at(s, tree, own, block, 6));
-    Spans { id, creditor, name, ultimate, kind, debtor }
+    Spans {
+        id,
+        creditor,
+        name,
+        ultimate,
+        kind,
+        debtor,
+    }
 }
 
 // The sixteen numbers, each of 32 bits.

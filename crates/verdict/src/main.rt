@@ -23,7 +23,11 @@ fn number(table: &[u32], i: usize, k: usize) -> u64 {
 }
 
 fn part(message: &[u8], table: &[u32], i: usize, k: usize) {
-    printing::part(message, number(table, i, k) as usize, number(table, i, k + 1) as usize);
+    printing::part(
+        message,
+        number(table, i, k) as usize,
+        number(table, i, k + 1) as usize,
+    );
 }
 
 fn cents(table: &[u32], i: usize) -> u64 {

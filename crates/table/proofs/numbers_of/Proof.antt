@@ -1,0 +1,35 @@
+use Rattle.tree.proofs.Laws.{at-cell, entry-of}
+use Rattle.table.proofs.Laws.{the-row, own-inside}
+use borrow.Author.Needs.{needs}
+use Rattle.table.proofs.numbers_of.Statement.{statement}
+use Rattle.table.proofs.numbers_of.Tie as tie
+use Rattle.table.proofs.numbers_of.Reads as reads
+use Rattle.table.proofs.numbers_of.Lts as lts
+use Rattle.counts.proofs.amount.Reads as amount-reads
+use Rattle.table.proofs.row.Reads as row-reads
+use Rattle.table.proofs.spans_of.Reads as spans-of-reads
+use Rattle.tree.proofs.cell.Reads as cell-reads
+
+-- src/lib.rt:110:9
+spans-of-requires : tie.Need-spans-of-requires
+spans-of-requires c κs = search needs
+
+-- src/lib.rt:111:9
+amount-requires : tie.Need-amount-requires
+amount-requires c κs = search needs
+
+-- src/lib.rt:112:28
+cell-requires : tie.Need-cell-requires
+cell-requires c κs = search needs
+
+-- src/lib.rt:112:5
+row-requires : tie.Need-row-requires
+row-requires c κs = search needs
+
+-- src/lib.rt:107:1
+returns : tie.Need-returns
+returns c = λ w p m n l b f e. the-row w (c .before .before .before .spans-of .ensures p m n l b) f e (c .before .before .amount .ensures (p .own) m l (f .amount)) (at-cell (entry-of l) (c .before .cell .ensures)) (own-inside l (c .before .cell .ensures)) (c .row .ensures)
+
+pub numbers-of-spec : {M : Type 1} → statement M
+numbers-of-spec =
+    tie.close (tie.spec spans-of-requires amount-requires cell-requires row-requires returns)
