@@ -25,7 +25,7 @@ use Rattle.form.specs.Answers.{Says}
 use Rattle.form.specs.declared.Form.{Form}
 use Rattle.form.specs.declared.Form.the-variants.{OfTheForm, RefusedAt}
 use Rattle.tree.specs.Laid.{Laid}
-use Rattle.order.specs.Ordered.{Ordered, Limited, is-within, is-excess}
+use Rattle.order.specs.Ordered.{Ordered, Few, Limited, is-within, is-excess}
 use Rattle.order.specs.declared.Limits.{Limits}
 use Rattle.order.specs.declared.Limits.the-variants.{Within, Excess}
 use Rattle.counts.specs.Counted.{Readable, Totals, total-is, total-above}
@@ -78,7 +78,7 @@ found-none e d = sym e ∙ rw d
 module _ {s tree order : List ℕ} {root : Element} {f : Finding} (a b : Option Refusal) (is : refusal-found f ≡ a) where
   pub first-refuses : {x : Fault} → f ≡ finding.Refused x → Passes s tree order root (a or-else b) (Refused x)
   unfolding _or-else_
-  first-refuses d = refuses (rw (found-refused is d))
+  first-refuses {x} d = refuses {f = x} (rw (found-refused is d))
 
   pub later-passes : {v : Verdict} → f ≡ finding.Nothing → Passes s tree order root b v → Passes s tree order root (a or-else b) v
   unfolding _or-else_
@@ -97,12 +97,12 @@ total-fits (total-above e) d = let z : _≡_ {A = ℕ} 0 1 = cc in absurd (omega
 module _ {s tree order : List ℕ} {root : Element} {t : Total} (h : Totals root t) where
   pub total-refused : {offset : ℕ} → t ≡ totalled.TooLarge offset → Passes s tree order root (total-refusal rows root or-else counts-refusal rows root) (Refused (TotalTooLarge offset))
   unfolding _or-else_
-  total-refused e = refuses (rw (total-answers h e))
+  total-refused {offset} e = refuses {f = TotalTooLarge offset} (rw (total-answers h e))
 
   module _ {n : ℕ} {f : Finding} (e : t ≡ totalled.Cents n) (is : refusal-found f ≡ counts-refusal rows root) where
     pub counts-refused : {x : Fault} → f ≡ finding.Refused x → Passes s tree order root (total-refusal rows root or-else counts-refusal rows root) (Refused x)
     unfolding _or-else_
-    counts-refused d = refuses (rw (total-fits h e .0) (found-refused is d))
+    counts-refused {x} d = refuses {f = x} (rw (total-fits h e .0) (found-refused is d))
 
     pub all-passed : {b p : ℕ} → f ≡ finding.Nothing → Ordered s tree order root → b ≡ length (blocks rows root) → p ≡ length (payments rows root) → p ≤ 64 → b ≤ 16
         → values-refusal rows root ≡ none → Passes s tree order root (total-refusal rows root or-else counts-refusal rows root) (Accepted b p n)
@@ -122,8 +122,8 @@ module _ {s tree order : List ℕ} {root : Element} {t : Total} (h : Totals root
 pub the-total : {root : Element} {t : Total} {n : ℕ} → Totals root t → t ≡ totalled.Cents n → n ≡ total rows root
 the-total h e = total-fits h e .1
 
-pub no-values-refusal : {root : Element} {f : Finding} → refusal-found f ≡ values-refusal rows root → f ≡ finding.Nothing → values-refusal rows root ≡ none
-no-values-refusal e d = found-none e d
+pub no-values-refusal : (root : Element) {f : Finding} → refusal-found f ≡ values-refusal rows root → f ≡ finding.Nothing → values-refusal rows root ≡ none
+no-values-refusal root e d = found-none e d
 
 -- 3 and 4, then 5
 module _ {s tree order : List ℕ} {root : Element} {f : Finding} (is : refusal-found f ≡ rows-refusal rows root) where
@@ -143,7 +143,7 @@ module _ {s tree order : List ℕ} {root : Element} {f : Finding} (is : refusal-
         go (is-excess {element = x} {offset = y} a) e =
             let g : x ≡ element = cc in
             let h : y ≡ offset = cc in
-            refuses (rw a (ap (λ (n : ℕ). refuse 5 n y) g ∙ ap (λ (n : ℕ). refuse 5 element n) h))
+            refuses {f = TooMany element offset} (rw a (ap (λ (n : ℕ). refuse 5 n y) g ∙ ap (λ (n : ℕ). refuse 5 element n) h))
 
     pub limits-passed : {b p : ℕ} {v : Verdict} → l ≡ Within b p → 208 ≤ length order
         → (Ordered s tree order root → b ≡ length (blocks rows root) → p ≡ length (payments rows root)
@@ -160,19 +160,34 @@ module _ {s tree order : List ℕ} {root : Element} {f : Finding} (is : refusal-
             rw a (then (o room) (sym g ∙ sym m) (sym h ∙ sym n))
         go (is-excess a) e = let z : _≡_ {A = ℕ} 0 1 = cc in absurd (omega (arith, z))
 
--- the whole outcome
-outcome-refused : {root : Element} {x : Fault} → tree-refusal rows root ≡ some (refusal-of x) → unless-refused (tree-refusal rows root) (accepted-with root) ≡ refused-as (refusal-of x)
-unfolding unless-refused
-outcome-refused e = rw e
+-- at most 16 blocks and 64 payments
+pub few-blocks : {l : Limits} {b p : ℕ} → Few l → l ≡ Within b p → b ≤ 16
+few-blocks {l} {b} {p} f e = go l f e
+  where
+    go : (l : Limits) → Few l → l ≡ Within b p → b ≤ 16
+    go (Within x y) f e = let g : x ≡ b = cc in subst (λ (n : ℕ). n ≤ 16) g (f .0)
+    go (Excess x y) f e = let z : _≡_ {A = ℕ} 0 1 = cc in absurd (omega (arith, z))
 
-outcome-accepted : {root : Element} → tree-refusal rows root ≡ none → unless-refused (tree-refusal rows root) (accepted-with root) ≡ accepted-with root
+pub few-payments : {l : Limits} {b p : ℕ} → Few l → l ≡ Within b p → p ≤ 64
+few-payments {l} {b} {p} f e = go l f e
+  where
+    go : (l : Limits) → Few l → l ≡ Within b p → p ≤ 64
+    go (Within x y) f e = let g : y ≡ p = cc in subst (λ (n : ℕ). n ≤ 64) g (f .1)
+    go (Excess x y) f e = let z : _≡_ {A = ℕ} 0 1 = cc in absurd (omega (arith, z))
+
+-- the whole outcome
+outcome-refused : (root : Element) (x : Fault) → tree-refusal rows root ≡ some (refusal-of x) → unless-refused (tree-refusal rows root) (accepted-with root) ≡ refused-as (refusal-of x)
 unfolding unless-refused
-outcome-accepted e = rw e
+outcome-refused root x e = rw e
+
+outcome-accepted : (root : Element) → tree-refusal rows root ≡ none → unless-refused (tree-refusal rows root) (accepted-with root) ≡ accepted-with root
+unfolding unless-refused
+outcome-accepted root e = rw e
 
 decide : {s tree order : List ℕ} {root : Element} {next : ℕ} → length s ≤ 32768 → read s ≡ root-is root → Laid s tree root 0 next → {v : Verdict}
     → Passes s tree order root (tree-refusal rows root) v → Decided s tree order v
-decide {s} l r t (refuses e) = decided-refused (of-the-form s l r ∙ outcome-refused e)
-decide {s} l r t (accepts e p) = decided-accepted l (of-the-form s l r ∙ outcome-accepted e) t p
+decide {s} {root = root} l r t (refuses {f = x} e) = decided-refused (of-the-form s l r ∙ outcome-refused root x e)
+decide {s} {root = root} l r t (accepts e p) = decided-accepted l (of-the-form s l r ∙ outcome-accepted root e) t p
 
 module _ {s tree order : List ℕ} {f : Finding} (h : Shaped s tree f) where
   pub shape-decides : {x : Fault} → f ≡ finding.Refused x → Decided s tree order (Refused x)
