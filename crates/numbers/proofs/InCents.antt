@@ -1,6 +1,6 @@
 -- Money said plainly: a hundred times the whole part, and the fraction padded to two digits; never above fifteen digits and two.
 use Prim.Native.Nat.{ℕ, suc, _+_, _*_, _-_, _^_, _<_, _≤_}
-use mathlib.Core.Path.{_≡_, refl, ap, sym, _∙_}
+use mathlib.Core.Path.{_≡_, refl, ap, sym, subst, _∙_}
 use mathlib.Core.List.{List, [], _∷_, _++_}
 use mathlib.Core.Bool.{Bool, true, false, _&&_, _||_}
 use native.Mathlib.Nat.{pow-succ', pow-le-pow-right, mul-le-mul-right, mul-assoc}
@@ -11,7 +11,9 @@ use borrow.Author.Tests.{leb-true}
 use Rattle.paper.specs.Bytes.{bytes, from-to, digit, every, same}
 use Rattle.paper.specs.Values.{number-after, number, digits, before-point, behind-point, money, cents}
 use Rattle.texts.proofs.Laws.{both-left, both-right, same-is, pairwise-same-length}
-use Rattle.numbers.proofs.Laws.{digits-most, digits-digits, no-point}
+use Rattle.numbers.proofs.Laws.{digits-most, digits-digits, no-point, in-cents-number}
+use Rattle.numbers.specs.Readings.{in-cents}
+use Rattle.numbers.specs.declared.Reading.the-variants.{Number}
 
 digit-worth : (b : ℕ) → digit b ≡ true → b - 48 ≤ 9
 unfolding digit from-to
@@ -75,3 +77,11 @@ cents-below w e =
     = number-below 15 (before-point w) (digits-digits 1 15 (before-point w) d) (digits-most 1 15 (before-point w) d) in
     let f : number (take 2 (behind-point w ++ bytes "00")) < 100 = fraction-below (behind-point w) (b .0) (b .1) in
     omega arith
+
+-- What the code reads as cents is that number.
+pub reading-is :
+    (w : List ℕ) (n : ℕ) → in-cents w ≡ Number n →
+    (n ≡ 100 * number (before-point w) + number (take 2 (behind-point w ++ bytes "00"))) × (n < 10 ^ 17)
+reading-is w n e =
+    let m = in-cents-number w n e in
+    (sym (m .1) ∙ cents-are w, subst (λ (k : ℕ). k < 10 ^ 17) (m .1) (cents-below w (m .0)))

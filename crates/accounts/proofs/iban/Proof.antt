@@ -1,17 +1,30 @@
 use borrow.Author.Needs.{needs}
 use native.Mathlib.Omega.{arith}
-use mathlib.Core.Path.{sym, ap, _∙_}
-use lib.ListN.{length, take, drop, length-take}
-use Prim.Native.Nat.{_-_}
+use mathlib.Core.Path.{_≡_, sym, _∙_}
+use lib.ListN.{take, drop, length-take}
 use borrow.Author.Tests.{not-true, not-false}
 use Rattle.paper.specs.Bytes.{bytes, every, capital-or-digit}
-use Rattle.paper.specs.Values.{iban, countries}
+use Rattle.paper.specs.Values.{lies-from, number, part, shaped, of-a-country, iban, countries}
 use Rattle.texts.specs.Shapes.{fits-byte}
 use Rattle.texts.proofs.Laws.{shaped-is, pairwise-length, rest-is, every-capital-or-digit}
 use Rattle.numbers.proofs.Laws.{spelled-part}
 use Rattle.accounts.proofs.Account.{of-a-country-is, moved-told}
 use Rattle.accounts.proofs.iban.Statement.{statement}
 use Rattle.accounts.proofs.iban.Tie as tie
+
+-- what each test of the code says of the paper's
+shape-is : (c : tie.After-shaped) → shaped "AA00" (take 4 (c .before .before .before .before .before .before .args .s .now)) ≡ c .shaped .result
+unfolding bytes
+shape-is c = shaped-is "AA00" (take 4 (c .before .before .before .before .before .before .args .s .now)) ∙ sym (c .shaped .ensures)
+
+check-is : (c : tie.After-lies-from) → lies-from 2 98 (number (part 2 2 (c .before .before .before .before .before .before .before .before .before .before .args .s .now))) ≡ c .lies-from .result
+check-is c = rw (← spelled-part (c .before .before .before .before .before .before .before .before .before .before .args .s .now) 2 2 _ (omega arith) (c .before .number .ensures)) (sym (c .lies-from .ensures))
+
+behind-is : (c : tie.After-every) → every capital-or-digit (drop 4 (c .before .before .before .before .before .before .before .before .before .before .before .before .args .s .now)) ≡ c .every .result
+behind-is c = rw (← rest-is (c .before .before .before .before .before .before .before .before .before .before .before .before .args .s .now) 4) (sym (c .every .ensures ∙ every-capital-or-digit _))
+
+country-is : (c : tie.After-country) → of-a-country countries (c .before .before .before .before .before .before .before .before .before .before .before .before .before .before .before .args .s .now) ≡ c .country .result
+country-is c = of-a-country-is countries (c .before .before .before .before .before .before .before .before .before .before .before .before .before .before .before .args .s .now) ∙ sym (c .country .ensures)
 
 returns : tie.Need-returns
 unfolding iban bytes
@@ -36,8 +49,8 @@ shaped-requires : tie.Need-shaped-requires
 shaped-requires c κs = search needs
 
 returns-2 : tie.Need-returns-2
-unfolding iban bytes
-returns-2 c = rw (shaped-is "AA00" (take 4 (c .before .before .before .before .before .before .before .args .s .now)) ∙ sym (c .before .shaped .ensures) ∙ not-true _ (c .if2 .taken))
+unfolding iban
+returns-2 c = rw (shape-is (c .before) ∙ not-true _ (c .if2 .taken))
 
 sub-number : tie.Need-sub-number
 sub-number c = search needs
@@ -55,15 +68,15 @@ lies-from-requires : tie.Need-lies-from-requires
 lies-from-requires c κs = search needs
 
 returns-3 : tie.Need-returns-3
-unfolding iban bytes
-returns-3 c = rw (shaped-is "AA00" (take 4 (c .before .before .before .before .before .before .before .before .before .before .before .args .s .now)) ∙ sym (c .before .before .before .before .before .shaped .ensures) ∙ not-false _ (c .before .before .before .before .if2 .left), ← spelled-part (c .before .before .before .before .before .before .before .before .before .before .before .args .s .now) 2 2 _ (omega arith) (c .before .before .number .ensures), sym (c .before .lies-from .ensures) ∙ not-true _ (c .if3 .taken))
+unfolding iban
+returns-3 c = rw (shape-is (c .before .before .before .before .before) ∙ not-false _ (c .before .before .before .before .if2 .left), check-is (c .before) ∙ not-true _ (c .if3 .taken))
 
 every-requires : tie.Need-every-requires
 every-requires c κs = search needs
 
 returns-4 : tie.Need-returns-4
-unfolding iban bytes
-returns-4 c = rw (shaped-is "AA00" (take 4 (c .before .before .before .before .before .before .before .before .before .before .before .before .before .args .s .now)) ∙ sym (c .before .before .before .before .before .before .before .shaped .ensures) ∙ not-false _ (c .before .before .before .before .before .before .if2 .left), ← spelled-part (c .before .before .before .before .before .before .before .before .before .before .before .before .before .args .s .now) 2 2 _ (omega arith) (c .before .before .before .before .number .ensures), sym (c .before .before .before .lies-from .ensures) ∙ not-false _ (c .before .before .if3 .left), ap (every capital-or-digit) (sym (rest-is (c .before .before .before .before .before .before .before .before .before .before .before .before .before .args .s .now) 4)) ∙ sym (every-capital-or-digit (take (length (c .before .before .before .before .before .before .before .before .before .before .before .before .before .args .s .now) - 4) (drop 4 (c .before .before .before .before .before .before .before .before .before .before .before .before .before .args .s .now)))) ∙ sym (c .before .every .ensures) ∙ not-true _ (c .if4 .taken))
+unfolding iban
+returns-4 c = rw (shape-is (c .before .before .before .before .before .before .before) ∙ not-false _ (c .before .before .before .before .before .before .if2 .left), check-is (c .before .before .before) ∙ not-false _ (c .before .before .if3 .left), behind-is (c .before) ∙ not-true _ (c .if4 .taken))
 
 slice-aggregate-country : tie.Need-slice-aggregate-country
 slice-aggregate-country c = omega (arith, length-take 2 (c .before .before .before .before .before .before .before .before .before .before .before .before .before .before .args .s .now))
@@ -72,8 +85,8 @@ country-requires : tie.Need-country-requires
 country-requires c κs = search needs
 
 returns-5 : tie.Need-returns-5
-unfolding iban bytes
-returns-5 c = rw (shaped-is "AA00" (take 4 (c .before .before .before .before .before .before .before .before .before .before .before .before .before .before .before .before .args .s .now)) ∙ sym (c .before .before .before .before .before .before .before .before .before .before .shaped .ensures) ∙ not-false _ (c .before .before .before .before .before .before .before .before .before .if2 .left), ← spelled-part (c .before .before .before .before .before .before .before .before .before .before .before .before .before .before .before .before .args .s .now) 2 2 _ (omega arith) (c .before .before .before .before .before .before .before .number .ensures), sym (c .before .before .before .before .before .before .lies-from .ensures) ∙ not-false _ (c .before .before .before .before .before .if3 .left), ap (every capital-or-digit) (sym (rest-is (c .before .before .before .before .before .before .before .before .before .before .before .before .before .before .before .before .args .s .now) 4)) ∙ sym (every-capital-or-digit (take (length (c .before .before .before .before .before .before .before .before .before .before .before .before .before .before .before .before .args .s .now) - 4) (drop 4 (c .before .before .before .before .before .before .before .before .before .before .before .before .before .before .before .before .args .s .now)))) ∙ sym (c .before .before .before .before .every .ensures) ∙ not-false _ (c .before .before .before .if4 .left), of-a-country-is countries (c .before .before .before .before .before .before .before .before .before .before .before .before .before .before .before .before .args .s .now) ∙ sym (c .before .country .ensures) ∙ not-true _ (c .if5 .taken))
+unfolding iban
+returns-5 c = rw (shape-is (c .before .before .before .before .before .before .before .before .before .before) ∙ not-false _ (c .before .before .before .before .before .before .before .before .before .if2 .left), check-is (c .before .before .before .before .before .before) ∙ not-false _ (c .before .before .before .before .before .if3 .left), behind-is (c .before .before .before .before) ∙ not-false _ (c .before .before .before .if4 .left), country-is (c .before) ∙ not-true _ (c .if5 .taken))
 
 remainder-requires : tie.Need-remainder-requires
 remainder-requires c κs = search needs
@@ -82,8 +95,8 @@ remainder-requires-2 : tie.Need-remainder-requires-2
 remainder-requires-2 c κs = search needs
 
 returns-6 : tie.Need-returns-6
-unfolding iban bytes
-returns-6 c = rw (shaped-is "AA00" (take 4 (c .before .before .before .before .before .before .before .before .before .before .before .before .before .before .before .before .before .before .args .s .now)) ∙ sym (c .before .before .before .before .before .before .before .before .before .before .before .before .shaped .ensures) ∙ not-false _ (c .before .before .before .before .before .before .before .before .before .before .before .if2 .left), ← spelled-part (c .before .before .before .before .before .before .before .before .before .before .before .before .before .before .before .before .before .before .args .s .now) 2 2 _ (omega arith) (c .before .before .before .before .before .before .before .before .before .number .ensures), sym (c .before .before .before .before .before .before .before .before .lies-from .ensures) ∙ not-false _ (c .before .before .before .before .before .before .before .if3 .left), ap (every capital-or-digit) (sym (rest-is (c .before .before .before .before .before .before .before .before .before .before .before .before .before .before .before .before .before .before .args .s .now) 4)) ∙ sym (every-capital-or-digit (take (length (c .before .before .before .before .before .before .before .before .before .before .before .before .before .before .before .before .before .before .args .s .now) - 4) (drop 4 (c .before .before .before .before .before .before .before .before .before .before .before .before .before .before .before .before .before .before .args .s .now)))) ∙ sym (c .before .before .before .before .before .before .every .ensures) ∙ not-false _ (c .before .before .before .before .before .if4 .left), of-a-country-is countries (c .before .before .before .before .before .before .before .before .before .before .before .before .before .before .before .before .before .before .args .s .now) ∙ sym (c .before .before .before .country .ensures) ∙ not-false _ (c .before .before .if5 .left), moved-told (c .before .before .before .before .before .before .before .before .before .before .before .before .before .before .before .before .before .before .args .s .now) _ _ (c .before .remainder .ensures .0) (c .remainder2 .ensures .0))
+unfolding iban
+returns-6 c = rw (shape-is (c .before .before .before .before .before .before .before .before .before .before .before .before) ∙ not-false _ (c .before .before .before .before .before .before .before .before .before .before .before .if2 .left), check-is (c .before .before .before .before .before .before .before .before) ∙ not-false _ (c .before .before .before .before .before .before .before .if3 .left), behind-is (c .before .before .before .before .before .before) ∙ not-false _ (c .before .before .before .before .before .if4 .left), country-is (c .before .before .before) ∙ not-false _ (c .before .before .if5 .left), moved-told (c .before .before .before .before .before .before .before .before .before .before .before .before .before .before .before .before .before .before .args .s .now) _ _ (c .before .remainder .ensures .0) (c .remainder2 .ensures .0))
 
 pub iban-spec : {M : Type 1} → statement M
 iban-spec =

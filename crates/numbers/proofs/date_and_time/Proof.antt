@@ -1,14 +1,32 @@
 use borrow.Author.Needs.{needs}
 use native.Mathlib.Omega.{arith}
-use mathlib.Core.Path.{sym, _∙_}
+use mathlib.Core.Path.{_≡_, sym, _∙_}
 use borrow.Author.Tests.{not-true, not-false, lt-leb, le-leb}
 use Rattle.paper.specs.Bytes.{bytes}
-use Rattle.paper.specs.Values.{date-and-time, part}
+use Rattle.paper.specs.Values.{shaped, date, number, part, date-and-time}
 use Rattle.texts.specs.Shapes.{fits-byte}
 use Rattle.texts.proofs.Laws.{shaped-is, pairwise-same-length}
 use Rattle.numbers.proofs.Laws.{spelled-part}
 use Rattle.numbers.proofs.date_and_time.Statement.{statement}
 use Rattle.numbers.proofs.date_and_time.Tie as tie
+
+-- what each test of the code says of the paper's
+shape-is : (c : tie.After-shaped) → shaped "0000-00-00T00:00:00" (c .before .before .before .args .s .now) ≡ c .shaped .result
+unfolding bytes
+shape-is c = shaped-is "0000-00-00T00:00:00" (c .before .before .before .args .s .now) ∙ sym (c .shaped .ensures)
+
+date-is : (c : tie.After-date) → date (part 0 10 (c .before .before .before .before .before .before .args .s .now)) ≡ c .date .result
+unfolding part
+date-is c = sym (c .date .ensures)
+
+hours : (c : tie.After-number) → number (part 11 2 (c .before .before .before .before .before .before .before .before .before .args .s .now)) ≡ c .number .result
+hours c = sym (spelled-part (c .before .before .before .before .before .before .before .before .before .args .s .now) 11 2 _ (omega arith) (c .number .ensures))
+
+minutes : (c : tie.After-number2) → number (part 14 2 (c .before .before .before .before .before .before .before .before .before .before .before .before .args .s .now)) ≡ c .number2 .result
+minutes c = sym (spelled-part (c .before .before .before .before .before .before .before .before .before .before .before .before .args .s .now) 14 2 _ (omega arith) (c .number2 .ensures))
+
+seconds : (c : tie.After-number3) → number (part 17 2 (c .before .before .before .before .before .before .before .before .before .before .before .before .before .before .before .args .s .now)) ≡ c .number3 .result
+seconds c = sym (spelled-part (c .before .before .before .before .before .before .before .before .before .before .before .before .before .before .before .args .s .now) 17 2 _ (omega arith) (c .number3 .ensures))
 
 slice-aggregate-shaped : tie.Need-slice-aggregate-shaped
 slice-aggregate-shaped c = search needs
@@ -17,8 +35,8 @@ shaped-requires : tie.Need-shaped-requires
 shaped-requires c κs = search needs
 
 returns : tie.Need-returns
-unfolding date-and-time bytes
-returns c = rw (shaped-is "0000-00-00T00:00:00" (c .before .before .before .before .args .s .now) ∙ sym (c .before .shaped .ensures) ∙ not-true _ (c .if1 .taken))
+unfolding date-and-time
+returns c = rw (shape-is (c .before) ∙ not-true _ (c .if1 .taken))
 
 sub-date : tie.Need-sub-date
 sub-date c = search needs
@@ -33,8 +51,8 @@ date-requires : tie.Need-date-requires
 date-requires c κs = search needs
 
 returns-2 : tie.Need-returns-2
-unfolding date-and-time bytes part
-returns-2 c = rw (shaped-is "0000-00-00T00:00:00" (c .before .before .before .before .before .before .before .args .s .now) ∙ sym (c .before .before .before .before .shaped .ensures) ∙ not-false _ (c .before .before .before .if1 .left), sym (c .before .date .ensures) ∙ not-true _ (c .if2 .taken))
+unfolding date-and-time
+returns-2 c = rw (shape-is (c .before .before .before .before) ∙ not-false _ (c .before .before .before .if1 .left), date-is (c .before) ∙ not-true _ (c .if2 .taken))
 
 sub-number : tie.Need-sub-number
 sub-number c = search needs
@@ -49,8 +67,8 @@ number-requires : tie.Need-number-requires
 number-requires c κs = search needs
 
 returns-3 : tie.Need-returns-3
-unfolding date-and-time bytes part
-returns-3 c = rw (shaped-is "0000-00-00T00:00:00" (c .before .before .before .before .before .before .before .before .before .before .args .s .now) ∙ sym (c .before .before .before .before .before .before .before .shaped .ensures) ∙ not-false _ (c .before .before .before .before .before .before .if1 .left), sym (c .before .before .before .before .date .ensures) ∙ not-false _ (c .before .before .before .if2 .left), ← spelled-part (c .before .before .before .before .before .before .before .before .before .before .args .s .now) 11 2 _ (omega arith) (c .before .number .ensures), lt-leb _ _ (c .if3 .taken))
+unfolding date-and-time
+returns-3 c = rw (shape-is (c .before .before .before .before .before .before .before) ∙ not-false _ (c .before .before .before .before .before .before .if1 .left), date-is (c .before .before .before .before) ∙ not-false _ (c .before .before .before .if2 .left), hours (c .before), lt-leb _ _ (c .if3 .taken))
 
 sub-number-2 : tie.Need-sub-number-2
 sub-number-2 c = search needs
@@ -65,8 +83,8 @@ number-requires-2 : tie.Need-number-requires-2
 number-requires-2 c κs = search needs
 
 returns-4 : tie.Need-returns-4
-unfolding date-and-time bytes part
-returns-4 c = rw (shaped-is "0000-00-00T00:00:00" (c .before .before .before .before .before .before .before .before .before .before .before .before .before .args .s .now) ∙ sym (c .before .before .before .before .before .before .before .before .before .before .shaped .ensures) ∙ not-false _ (c .before .before .before .before .before .before .before .before .before .if1 .left), sym (c .before .before .before .before .before .before .before .date .ensures) ∙ not-false _ (c .before .before .before .before .before .before .if2 .left), ← spelled-part (c .before .before .before .before .before .before .before .before .before .before .before .before .before .args .s .now) 11 2 _ (omega arith) (c .before .before .before .before .number .ensures), le-leb _ _ (c .before .before .before .if3 .left), ← spelled-part (c .before .before .before .before .before .before .before .before .before .before .before .before .before .args .s .now) 14 2 _ (omega arith) (c .before .number2 .ensures), lt-leb _ _ (c .if4 .taken))
+unfolding date-and-time
+returns-4 c = rw (shape-is (c .before .before .before .before .before .before .before .before .before .before) ∙ not-false _ (c .before .before .before .before .before .before .before .before .before .if1 .left), date-is (c .before .before .before .before .before .before .before) ∙ not-false _ (c .before .before .before .before .before .before .if2 .left), hours (c .before .before .before .before), le-leb _ _ (c .before .before .before .if3 .left), minutes (c .before), lt-leb _ _ (c .if4 .taken))
 
 sub-number-3 : tie.Need-sub-number-3
 sub-number-3 c = search needs
@@ -81,8 +99,8 @@ number-requires-3 : tie.Need-number-requires-3
 number-requires-3 c κs = search needs
 
 returns-5 : tie.Need-returns-5
-unfolding date-and-time bytes part
-returns-5 c = rw (shaped-is "0000-00-00T00:00:00" (c .before .before .before .before .before .before .before .before .before .before .before .before .before .before .before .args .s .now) ∙ sym (c .before .before .before .before .before .before .before .before .before .before .before .before .shaped .ensures) ∙ not-false _ (c .before .before .before .before .before .before .before .before .before .before .before .if1 .left), sym (c .before .before .before .before .before .before .before .before .before .date .ensures) ∙ not-false _ (c .before .before .before .before .before .before .before .before .if2 .left), ← spelled-part (c .before .before .before .before .before .before .before .before .before .before .before .before .before .before .before .args .s .now) 11 2 _ (omega arith) (c .before .before .before .before .before .before .number .ensures), le-leb _ _ (c .before .before .before .before .before .if3 .left), ← spelled-part (c .before .before .before .before .before .before .before .before .before .before .before .before .before .before .before .args .s .now) 14 2 _ (omega arith) (c .before .before .before .number2 .ensures), le-leb _ _ (c .before .before .if4 .left), ← spelled-part (c .before .before .before .before .before .before .before .before .before .before .before .before .before .before .before .args .s .now) 17 2 _ (omega arith) (c .number3 .ensures))
+unfolding date-and-time
+returns-5 c = rw (shape-is (c .before .before .before .before .before .before .before .before .before .before .before .before) ∙ not-false _ (c .before .before .before .before .before .before .before .before .before .before .before .if1 .left), date-is (c .before .before .before .before .before .before .before .before .before) ∙ not-false _ (c .before .before .before .before .before .before .before .before .if2 .left), hours (c .before .before .before .before .before .before), le-leb _ _ (c .before .before .before .before .before .if3 .left), minutes (c .before .before .before), le-leb _ _ (c .before .before .if4 .left), seconds c)
 
 pub date-and-time-spec : {M : Type 1} → statement M
 date-and-time-spec =

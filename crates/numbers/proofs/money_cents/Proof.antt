@@ -1,11 +1,21 @@
 use borrow.Author.Needs.{needs}
 use native.Mathlib.Omega.{arith}
-use mathlib.Core.Path.{sym, _∙_}
+use mathlib.Core.Path.{_≡_, sym, _∙_}
+use lib.ListN.{take}
+use mathlib.Core.Bool.{true}
 use borrow.Author.Tests.{not-true, not-false}
 use lib.ListN.{length-take}
+use Rattle.paper.specs.Values.{digits, number}
 use Rattle.numbers.proofs.Laws.{no-money, whole-money, part-not-money, part-money, point-within, spelled, digits-most}
 use Rattle.numbers.proofs.money_cents.Statement.{statement}
 use Rattle.numbers.proofs.money_cents.Tie as tie
+
+-- what is before the point is digits, and their number is read
+whole : (c : tie.After-number) → digits 1 15 (take (c .before .before .before .before .point .result) (c .before .before .before .before .before .before .args .s .now)) ≡ true
+whole c = sym (c .before .before .digits .ensures) ∙ not-false _ (c .before .if1 .left)
+
+spelling : (c : tie.After-number) → c .number .result ≡ number (take (c .before .before .before .before .point .result) (c .before .before .before .before .before .before .args .s .now))
+spelling c = spelled _ _ (c .number .ensures) (digits-most 1 15 _ (whole c))
 
 point-requires : tie.Need-point-requires
 point-requires c κs = search needs
@@ -26,7 +36,7 @@ mul-t10 : tie.Need-mul-t10
 mul-t10 c = search needs
 
 returns-2 : tie.Need-returns-2
-returns-2 c = sym (whole-money (c .before .before .before .before .before .before .before .args .s .now) (c .before .before .before .before .before .point .result) (c .before .before .before .before .before .point .ensures) (c .before .number .result) (sym (c .before .before .before .digits .ensures) ∙ not-false _ (c .before .before .if1 .left)) (spelled _ _ (c .before .number .ensures) (digits-most 1 15 _ (sym (c .before .before .before .digits .ensures) ∙ not-false _ (c .before .before .if1 .left)))) (c .if2 .taken))
+returns-2 c = sym (whole-money (c .before .before .before .before .before .before .before .args .s .now) (c .before .before .before .before .before .point .result) (c .before .before .before .before .before .point .ensures) (c .before .number .result) (whole (c .before)) (spelling (c .before)) (c .if2 .taken))
 
 add-behind : tie.Need-add-behind
 add-behind c = omega (arith, point-within (c .before .before .before .before .before .before .before .args .s .now))
@@ -44,7 +54,7 @@ digits-requires-2 : tie.Need-digits-requires-2
 digits-requires-2 c κs = search needs
 
 returns-3 : tie.Need-returns-3
-returns-3 c = sym (part-not-money (c .before .before .before .before .before .before .before .before .before .before .args .s .now) (c .before .before .before .before .before .before .before .before .point .result) (c .before .before .before .before .before .before .before .before .point .ensures) (c .before .before .before .before .number .result) (sym (c .before .before .before .before .before .before .digits .ensures) ∙ not-false _ (c .before .before .before .before .before .if1 .left)) (spelled _ _ (c .before .before .before .before .number .ensures) (digits-most 1 15 _ (sym (c .before .before .before .before .before .before .digits .ensures) ∙ not-false _ (c .before .before .before .before .before .if1 .left)))) (omega (arith, point-within (c .before .before .before .before .before .before .before .before .before .before .args .s .now))) (sym (c .before .digits2 .ensures) ∙ not-true _ (c .if3 .taken)))
+returns-3 c = sym (part-not-money (c .before .before .before .before .before .before .before .before .before .before .args .s .now) (c .before .before .before .before .before .before .before .before .point .result) (c .before .before .before .before .before .before .before .before .point .ensures) (c .before .before .before .before .number .result) (whole (c .before .before .before .before)) (spelling (c .before .before .before .before)) (omega (arith, point-within (c .before .before .before .before .before .before .before .before .before .before .args .s .now))) (sym (c .before .digits2 .ensures) ∙ not-true _ (c .if3 .taken)))
 
 mul-t14 : tie.Need-mul-t14
 mul-t14 c = search needs
@@ -56,7 +66,7 @@ add-t16 : tie.Need-add-t16
 add-t16 c = search needs
 
 returns-4 : tie.Need-returns-4
-returns-4 c = sym (part-money (c .before .before .before .before .before .before .before .before .before .before .before .args .s .now) (c .before .before .before .before .before .before .before .before .before .point .result) (c .before .before .before .before .before .before .before .before .before .point .ensures) (c .before .before .before .before .before .number .result) (sym (c .before .before .before .before .before .before .before .digits .ensures) ∙ not-false _ (c .before .before .before .before .before .before .if1 .left)) (spelled _ _ (c .before .before .before .before .before .number .ensures) (digits-most 1 15 _ (sym (c .before .before .before .before .before .before .before .digits .ensures) ∙ not-false _ (c .before .before .before .before .before .before .if1 .left)))) (omega (arith, point-within (c .before .before .before .before .before .before .before .before .before .before .before .args .s .now))) (c .hundredths .result) (sym (c .before .before .digits2 .ensures) ∙ not-false _ (c .before .if3 .left)) (c .hundredths .ensures .0))
+returns-4 c = sym (part-money (c .before .before .before .before .before .before .before .before .before .before .before .args .s .now) (c .before .before .before .before .before .before .before .before .before .point .result) (c .before .before .before .before .before .before .before .before .before .point .ensures) (c .before .before .before .before .before .number .result) (whole (c .before .before .before .before .before)) (spelling (c .before .before .before .before .before)) (omega (arith, point-within (c .before .before .before .before .before .before .before .before .before .before .before .args .s .now))) (c .hundredths .result) (sym (c .before .before .digits2 .ensures) ∙ not-false _ (c .before .if3 .left)) (c .hundredths .ensures .0))
 
 pub money-cents-spec : {M : Type 1} → statement M
 money-cents-spec =
