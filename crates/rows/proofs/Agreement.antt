@@ -8,7 +8,7 @@ use lib.Dec.{eqb}
 use Rattle.paper.specs.Bytes.{if_then_else_}
 use Rattle.paper.specs.Form.{Element}
 use Rattle.paper.specs.Rows.{rows}
-use Rattle.paper.specs.Refusals.{Refusal, largest-message}
+use Rattle.paper.specs.Refusals.{Refusal}
 use Rattle.paper.specs.Answers.{numbered, refusal-of, refusal-found}
 use Rattle.paper.specs.declared.Fault.{Fault}
 use Rattle.paper.specs.declared.Fault.the-variants.{TableTooShort, MessageTooLong, NotOfTheForm, NotAllowedThere, Missing, TooMany, EmptyOrTooLong, CharacterNotInTheSet, ValueNotAllowed, InPaymentAndBlock, InNeither, BlockIdRepeated, TotalTooLarge, CountDiffers, SumDiffers}

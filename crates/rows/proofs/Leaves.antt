@@ -1,20 +1,20 @@
 -- Laws about elements that hold text: in a group, and in a leaf.
 use Prim.Native.Nat.{ℕ, suc, _+_, _-_, _<_, _≤_}
 use mathlib.Core.List.{List, [], _∷_}
-use mathlib.Core.Bool.{Bool, true, false, _&&_, _||_, not}
+use mathlib.Core.Bool.{Bool, true, false, _||_, not}
 use mathlib.Core.Option.{Option, none, some}
 use mathlib.Core.Path.{_≡_, refl, sym, ap, _∙_}
 use native.Mathlib.Omega.{arith}
 use lib.Dec.{eqb}
-use lib.ListN.{length, take, drop, length-take, length-drop}
+use lib.ListN.{length, drop, length-take, length-drop}
 use borrow.Author.Tests.{eqb-true, eqb-false, ne-eqb}
-use Rattle.paper.specs.Bytes.{if_then_else_, bytes, is, white, value-character, every, same}
+use Rattle.paper.specs.Bytes.{if_then_else_, bytes, is, white, value-character, every}
 use Rattle.paper.specs.Form.{Head}
 use Rattle.paper.specs.Rows.{Place, Row}
 use Rattle.paper.specs.Values.{lies-from, allowed}
 use Rattle.paper.specs.Refusals.{Refusal, refuse, first-not, ends, only-white, longest-of, leaf-refusal}
 use Rattle.texts.proofs.Laws.{none-first, one-first}
-use Rattle.tree.specs.Laid.{between, Written, Entry}
+use Rattle.tree.specs.Laid.{between, Entry}
 use Rattle.values.specs.Judgements.{told, Judges}
 use Rattle.values.specs.declared.Judgement.{Judgement}
 use Rattle.values.specs.declared.Judgement.the-variants.{Fine, EmptyOrTooLong, NotInTheSet, NotAllowed}

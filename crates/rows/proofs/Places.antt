@@ -1,19 +1,18 @@
 -- Laws about the places of an entry, step by step.
-use Prim.Native.Nat.{ℕ, zero, suc, _+_, _*_, _-_, _<_, _≤_}
+use Prim.Native.Nat.{ℕ, zero, suc, _+_, _-_, _<_, _≤_}
 use mathlib.Core.List.{List, [], _∷_, _++_}
 use mathlib.Core.Bool.{Bool, true, false}
 use mathlib.Core.Option.{Option, none, some}
 use mathlib.Core.Path.{_≡_, refl, sym, ap, _∙_}
 use native.Mathlib.Omega.{arith}
 use native.Mathlib.Nat.{add-zero}
-use native.Mathlib.Numerals.{add-one}
 use lib.Dec.{eqb, ltb}
 use borrow.Author.Tests.{ne-eqb, eqb-false, ltb-true, ltb-false}
 use Rattle.paper.specs.Bytes.{if_then_else_, same}
-use Rattle.paper.specs.Rows.{Place, one, opt, plus, either, further, Holds, text, elements, Row, row-of}
+use Rattle.paper.specs.Rows.{Place, one, opt, plus, either, further, Row, row-of}
 use Rattle.paper.specs.Refusals.{rows-at, required, left-of, first-row, missing, Sought, never, early, found, past, named-in, seek, Refusal, refuse, ends}
 use Rattle.paper.proofs.Laws.{same-says, false-not-true}
-use Rattle.rows.specs.Numbers.{of-entry, of-place, first-of, second-of, of-kind, place-at, places-from, places-between, places-left, holds-at, name-at, row-at, Stands}
+use Rattle.rows.specs.Numbers.{of-entry, of-place, first-of, second-of, of-kind, place-at, places-from, places-between, places-left, name-at, row-at}
 use Rattle.rows.specs.Walk.{lacking, behind, Resolved, Known, Takes, StandsAt, Seeks}
 use Rattle.rows.specs.declared.Lacks.{Lacks}
 use Rattle.rows.specs.declared.Lacks.the-variants as lacks

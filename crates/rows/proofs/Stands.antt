@@ -2,12 +2,10 @@
 use Prim.Native.Nat.{ℕ, zero, suc, _+_, _*_, _-_, _<_, _≤_}
 use mathlib.Core.List.{List, [], _∷_, map}
 use mathlib.Core.Bool.{Bool, true, false}
-use mathlib.Core.Path.{_≡_, refl, sym, ap, _∙_}
-use mathlib.Core.Logic.{_⊎_, inl, inr, ⊎-elim}
+use mathlib.Core.Path.{_≡_, refl, ap, _∙_}
 use native.Mathlib.Omega.{arith}
-use native.Mathlib.Decide.{decLt}
 use lib.Dec.{eqb, ltb}
-use lib.ListN.{length, getD, List·getD-eq-default}
+use lib.ListN.{length, List·getD-eq-default}
 use borrow.Author.Tests.{eq-eqb, eqb-true, eqb-false, ltb-true, ltb-false}
 use Rattle.paper.specs.Bytes.{if_then_else_, bytes}
 use Rattle.paper.specs.Rows.{Row, row-of, rows, leaf, group, group-under}
@@ -17,7 +15,7 @@ use Rattle.paper.specs.Answers.{refusal-found}
 use Rattle.paper.specs.declared.Finding.{Finding}
 use Rattle.tree.specs.Laid.{Laid}
 use Rattle.rows.specs.Walk.{judgement, refusal-by, Walks}
-use Rattle.rows.specs.Numbers.{of-entry, of-place, first-of, second-of, of-kind, place-at, places-from, places-between, holds-at, name-at, row-at, Stands}
+use Rattle.rows.specs.Numbers.{of-entry, of-place, of-kind, place-at, places-from, places-between, holds-at, name-at, row-at, Stands}
 
 -- two functions that agree below n, by one equation of lists
 upto : ℕ → List ℕ

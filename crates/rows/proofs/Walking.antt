@@ -1,14 +1,12 @@
 -- Laws about the walk itself: an element by what it holds, and a group's children one after the other.
-use Prim.Native.Nat.{ℕ, _+_, _*_, _-_, _<_, _≤_}
-use mathlib.Core.List.{List, []}
+use Prim.Native.Nat.{ℕ, _+_, _<_, _≤_}
+use mathlib.Core.List.{List}
 use mathlib.Core.Bool.{Bool, true, false}
-use mathlib.Core.Option.{Option, none, some}
+use mathlib.Core.Option.{Option}
 use mathlib.Core.Path.{_≡_, refl, sym, ap, _∙_}
 use native.Mathlib.Omega.{arith}
-use lib.Dec.{eqb}
-use lib.ListN.{getD}
 use borrow.Author.Tests.{eq-eqb, ne-eqb}
-use Rattle.paper.specs.Bytes.{if_then_else_, bytes}
+use Rattle.paper.specs.Bytes.{bytes}
 use Rattle.paper.specs.Form.{Head, Element, Elements, holding-text, holding-elements, []ᵉ, _∷ᵉ_}
 use Rattle.paper.specs.Rows.{Place, Holds, text, elements, Row, row-of, head-of}
 use Rattle.paper.specs.Refusals.{Refusal, refuse, _or-else_, ends, only-white, first-at, Sought, never, early, found, seek, longest-of, walk, walk-all}
@@ -17,10 +15,10 @@ use Rattle.paper.specs.declared.Finding.{Finding}
 use Rattle.paper.specs.declared.Finding.the-variants.{Nothing, Refused}
 use Rattle.paper.specs.declared.Fault.{Fault}
 use Rattle.paper.proofs.Laws.{false-not-true}
-use Rattle.tree.specs.Laid.{between, Written, Entry, Laid, laid-text, laid-elements, LaidAll, laid-none, laid-more}
-use Rattle.tree.proofs.Laws.{Cell, few-enough, at-cell, next-cell, entry-of}
-use Rattle.rows.specs.Numbers.{of-entry, of-place, first-of, places-between, places-left, holds-at, name-at, row-at, Stands}
-use Rattle.rows.specs.Walk.{judgement, Resolved, ResolvedBetween, Known, Seeks}
+use Rattle.tree.specs.Laid.{between, Entry, Laid, laid-text, laid-elements, LaidAll, laid-none, laid-more}
+use Rattle.tree.proofs.Laws.{Cell, at-cell, next-cell, entry-of}
+use Rattle.rows.specs.Numbers.{of-entry, places-between, places-left, holds-at, row-at, Stands}
+use Rattle.rows.specs.Walk.{judgement, ResolvedBetween, Seeks}
 use Rattle.rows.specs.declared.Sought.{Sought as Sought′}
 use Rattle.rows.specs.declared.Sought.the-variants as sought
 
