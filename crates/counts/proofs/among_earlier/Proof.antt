@@ -10,10 +10,6 @@ use Rattle.order.specs.Ordered.{BlocksAt}
 use Rattle.counts.proofs.Repeats.{Unmatched, unmatched, matched, still-unmatched, never-matched}
 use Rattle.counts.proofs.among_earlier.Statement.{statement}
 use Rattle.counts.proofs.among_earlier.Tie as tie
-use Rattle.counts.proofs.among_earlier.Reads as reads
-use Rattle.counts.proofs.among_earlier.Lts as lts
-use Rattle.counts.proofs.has_id.Reads as has-id-reads
-use Rattle.counts.proofs.number_at.Reads as number-at-reads
 
 abbrev Inv-loop : tie.InvT-loop
 Inv-loop s tree out k id j₀ j = (bs : List Element) (t : Element) (n : ℕ) → BlocksAt s tree out 0 bs → k ≡ length bs → Laid s tree t id n → Unmatched s tree out (text-of t) bs j k
@@ -21,35 +17,27 @@ Inv-loop s tree out k id j₀ j = (bs : List Element) (t : Element) (n : ℕ) �
 abbrev μ-loop : tie.MeasureT-loop
 μ-loop s tree out k id j₀ j = k - j
 
--- src/lib.rt:101:5
 loop-holds : tie.Need-loop-holds Inv-loop μ-loop
 loop-holds c = λ bs t n a e l. unmatched (text-of t) a e
 
--- src/lib.rt:102:28
 number-at-requires : tie.Need-number-at-requires Inv-loop μ-loop
 number-at-requires c κs = search needs
 
--- src/lib.rt:102:12
 has-id-requires : tie.Need-has-id-requires Inv-loop μ-loop
 has-id-requires c κs = search needs
 
--- src/lib.rt:103:13
 returns : tie.Need-returns Inv-loop μ-loop
 returns c = λ bs t n a e l. matched l (c .before .before .before .before .loop .inv bs t n a e l) (c .before .before .number-at .ensures) (c .before .before .before .loop-test .taken) (c .before .has-id .ensures) (c .if1 .taken)
 
--- src/lib.rt:105:9
 add-j : tie.Need-add-j Inv-loop μ-loop
 add-j c = search needs
 
--- src/lib.rt:101:5
 loop-less : tie.Need-loop-less Inv-loop μ-loop
 loop-less c = search needs
 
--- src/lib.rt:101:5
 loop-again : tie.Need-loop-again Inv-loop μ-loop
 loop-again c = λ bs t n a e l. still-unmatched l (c .before .before .before .before .loop .inv bs t n a e l) (c .before .before .number-at .ensures) (c .before .before .before .loop-test .taken) (c .before .has-id .ensures) (c .if1 .left)
 
--- src/lib.rt:97:1
 returns-2 : tie.Need-returns-2 Inv-loop μ-loop
 returns-2 c = λ bs t n a e l. never-matched (c .before .loop .inv bs t n a e l) (c .loop-test .left)
 

@@ -7,46 +7,32 @@ use Rattle.counts.proofs.Repeats.{id-absent, id-there}
 use borrow.Author.Needs.{needs}
 use Rattle.counts.proofs.has_id.Statement.{statement}
 use Rattle.counts.proofs.has_id.Tie as tie
-use Rattle.counts.proofs.has_id.Reads as reads
-use Rattle.counts.proofs.has_id.Lts as lts
-use Rattle.counts.proofs.text.Reads as text-reads
-use Rattle.order.proofs.child.Reads as child-reads
-use Rattle.texts.proofs.same.Reads as same-reads
 
--- src/lib.rt:89:46
 slice-aggregate-child : tie.Need-slice-aggregate-child
 slice-aggregate-child c = search needs
 
--- src/lib.rt:89:9
 child-requires : tie.Need-child-requires
 child-requires c κs = search needs
 
--- src/lib.rt:90:19
 enum-known-found : tie.Need-enum-known-found
 enum-known-found c = search needs
 
--- src/lib.rt:91:9
 enum-told : tie.Need-enum-told
 enum-told c = search needs
 
--- src/lib.rt:91:9
 returns : tie.Need-returns
 unfolding rows row-of leaf group group-under bytes
 returns c = λ b t m n lb lt. id-absent (text-of t) (row-found b 10 11 refl (c .before .before .child .ensures b m lb)) (c .enum-told .given .1)
 
--- src/lib.rt:93:17
 text-requires : tie.Need-text-requires
 text-requires c κs = search needs
 
--- src/lib.rt:93:36
 text-requires-2 : tie.Need-text-requires-2
 text-requires-2 c κs = search needs
 
--- src/lib.rt:93:5
 same-requires : tie.Need-same-requires
 same-requires c κs = search needs
 
--- src/lib.rt:86:1
 returns-2 : tie.Need-returns-2
 unfolding rows row-of leaf group group-under bytes
 returns-2 c = λ b t m n lb lt. id-there (text-of t) (row-found b 10 11 refl (c .before .before .before .before .before .before .child .ensures b m lb)) (c .before .before .before .before .found .given .1) (c .before .before .text .ensures t n lt) (c .before .text2 .ensures) (c .same .ensures)

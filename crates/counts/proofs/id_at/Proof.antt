@@ -11,52 +11,36 @@ use Rattle.counts.proofs.Leaves.{stands-at, row-found, leaf-absent, lea
 use borrow.Author.Needs.{needs}
 use Rattle.counts.proofs.id_at.Statement.{statement}
 use Rattle.counts.proofs.id_at.Tie as tie
-use Rattle.counts.proofs.id_at.Reads as reads
-use Rattle.counts.proofs.id_at.Lts as lts
-use Rattle.counts.proofs.among_earlier.Reads as among-earlier-reads
-use Rattle.counts.proofs.number_at.Reads as number-at-reads
-use Rattle.order.proofs.child.Reads as child-reads
-use Rattle.tree.proofs.cell.Reads as cell-reads
 
--- src/lib.rt:114:39
 number-at-requires : tie.Need-number-at-requires
 number-at-requires c κs = search needs
 
--- src/lib.rt:114:58
 slice-aggregate-child : tie.Need-slice-aggregate-child
 slice-aggregate-child c = search needs
 
--- src/lib.rt:114:9
 child-requires : tie.Need-child-requires
 child-requires c κs = search needs
 
--- src/lib.rt:115:19
 enum-known-found : tie.Need-enum-known-found
 enum-known-found c = search needs
 
--- src/lib.rt:116:9
 enum-told : tie.Need-enum-told
 enum-told c = search needs
 
--- src/lib.rt:116:9
 returns : tie.Need-returns
 unfolding rows row-of leaf group group-under bytes id-refusal refusal-of
 returns c = λ bs b n a e l. leaf-absent (λ w. not (among-texts w (with-ids [] bs))) 11 11 (row-found b 10 11 refl (c .before .before .child .ensures b n (stands-at (c .before .before .before .before .number-at .ensures) l))) (c .enum-told .given .1)
 
--- src/lib.rt:118:8
 among-earlier-requires : tie.Need-among-earlier-requires
 among-earlier-requires c κs = search needs
 
--- src/lib.rt:120:21
 cell-requires : tie.Need-cell-requires
 cell-requires c κs = search needs
 
--- src/lib.rt:119:9
 returns-2 : tie.Need-returns-2
 unfolding rows row-of leaf group group-under bytes id-refusal refusal-of
 returns-2 c = λ bs b n a e l. leaf-wrong (λ w. not (among-texts w (with-ids [] bs))) 11 11 (row-found b 10 11 refl (c .before .before .before .before .before .before .child .ensures b n (stands-at (c .before .before .before .before .before .before .before .before .number-at .ensures) l))) (BlockIdRepeated _) (c .before .before .before .before .found .given .1) (λ t next k is. ap not (sym (c .before .before .among-earlier .ensures bs t next a e k) ∙ c .before .if1 .taken)) (c .cell .ensures) refl
 
--- src/lib.rt:111:1
 returns-3 : tie.Need-returns-3
 unfolding rows row-of leaf group group-under bytes id-refusal refusal-of
 returns-3 c = λ bs b n a e l. leaf-right (λ w. not (among-texts w (with-ids [] bs))) 11 11 (row-found b 10 11 refl (c .before .before .before .before .before .child .ensures b n (stands-at (c .before .before .before .before .before .before .before .number-at .ensures) l))) (c .before .before .before .found .given .1) (λ t next k is. ap not (sym (c .before .among-earlier .ensures bs t next a e k) ∙ c .if1 .left))

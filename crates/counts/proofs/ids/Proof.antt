@@ -9,9 +9,6 @@ use Rattle.order.specs.Ordered.{Ordered}
 use Rattle.counts.proofs.Repeats.{BeforeId, before-ids, no-id-left, id-refused, id-passed}
 use Rattle.counts.proofs.ids.Statement.{statement}
 use Rattle.counts.proofs.ids.Tie as tie
-use Rattle.counts.proofs.ids.Reads as reads
-use Rattle.counts.proofs.ids.Lts as lts
-use Rattle.counts.proofs.id_at.Reads as id-at-reads
 
 abbrev Inv-loop : tie.InvT-loop
 Inv-loop s tree out blocks k₀ k = (root : Element) → Ordered s tree out root → blocks ≡ length (all-blocks rows root) → BeforeId s tree out root k blocks
@@ -19,38 +16,30 @@ Inv-loop s tree out blocks k₀ k = (root : Element) → Ordered s tree out root
 abbrev μ-loop : tie.MeasureT-loop
 μ-loop s tree out blocks k₀ k = blocks - k
 
--- src/lib.rt:131:5
 loop-holds : tie.Need-loop-holds Inv-loop μ-loop
 loop-holds c = λ root o e. before-ids o e
 
--- src/lib.rt:132:13
 id-at-requires : tie.Need-id-at-requires Inv-loop μ-loop
 id-at-requires c κs = search needs
 
 enum-told : tie.Need-enum-told Inv-loop μ-loop
 enum-told c = search needs
 
--- src/lib.rt:134:13
 enum-told-2 : tie.Need-enum-told-2 Inv-loop μ-loop
 enum-told-2 c = search needs
 
--- src/lib.rt:134:13
 returns : tie.Need-returns Inv-loop μ-loop
 returns c = λ root o e. id-refused (c .before .before .before .before .loop .inv root o e) _ (c .before .before .before .loop-test .taken) (c .before .before .id-at .ensures) (c .enum-told2 .given .1)
 
--- src/lib.rt:136:9
 add-k : tie.Need-add-k Inv-loop μ-loop
 add-k c = search needs
 
--- src/lib.rt:131:5
 loop-less : tie.Need-loop-less Inv-loop μ-loop
 loop-less c = search needs
 
--- src/lib.rt:131:5
 loop-again : tie.Need-loop-again Inv-loop μ-loop
 loop-again c = λ root o e. id-passed (c .before .before .before .before .loop .inv root o e) _ (c .before .before .before .loop-test .taken) (c .before .before .id-at .ensures) (c .enum-told .given .1)
 
--- src/lib.rt:127:1
 returns-2 : tie.Need-returns-2 Inv-loop μ-loop
 returns-2 c = λ root o e. no-id-left (c .before .loop .inv root o e) (c .loop-test .left)
 

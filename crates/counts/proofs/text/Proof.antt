@@ -2,67 +2,49 @@ use borrow.Author.Needs.{needs}
 use Rattle.counts.proofs.Leaves.{text-there, text-nowhere, text-stuck, text-backwards, text-past}
 use Rattle.counts.proofs.text.Statement.{statement}
 use Rattle.counts.proofs.text.Tie as tie
-use Rattle.counts.proofs.text.Reads as reads
-use Rattle.counts.proofs.text.Lts as lts
-use Rattle.tree.proofs.cell.Reads as cell-reads
 
--- src/lib.rt:57:9
 cell-requires : tie.Need-cell-requires
 cell-requires c κs = search needs
 
--- src/lib.rt:58:9
 cell-requires-2 : tie.Need-cell-requires-2
 cell-requires-2 c κs = search needs
 
--- src/lib.rt:59:9
 cell-requires-3 : tie.Need-cell-requires-3
 cell-requires-3 c κs = search needs
 
--- src/lib.rt:61:9
 slice-aggregate-result : tie.Need-slice-aggregate-result
 slice-aggregate-result c = search needs
 
--- src/lib.rt:61:9
 returns : tie.Need-returns
 returns c = λ t next l. text-stuck (c .before .before .before .before .cell .ensures) (c .before .before .before .cell2 .ensures) (c .before .before .cell3 .ensures) l (c .before .if1 .taken)
 
--- src/lib.rt:63:8
 sub-if2 : tie.Need-sub-if2
 sub-if2 c = search needs
 
--- src/lib.rt:64:9
 slice-aggregate-result-2 : tie.Need-slice-aggregate-result-2
 slice-aggregate-result-2 c = search needs
 
--- src/lib.rt:64:9
 returns-2 : tie.Need-returns-2
 returns-2 c = λ t next l. text-nowhere (c .before .before .before .before .before .cell .ensures) (c .before .before .before .before .cell2 .ensures) (c .before .before .before .cell3 .ensures) l (c .before .if2 .taken)
 
--- src/lib.rt:67:9
 slice-aggregate-result-3 : tie.Need-slice-aggregate-result-3
 slice-aggregate-result-3 c = search needs
 
--- src/lib.rt:67:9
 returns-3 : tie.Need-returns-3
 returns-3 c = λ t next l. text-backwards (c .before .before .before .before .before .before .cell .ensures) (c .before .before .before .before .before .cell2 .ensures) (c .before .before .before .before .cell3 .ensures) l (c .before .if3 .taken)
 
--- src/lib.rt:70:9
 slice-aggregate-result-4 : tie.Need-slice-aggregate-result-4
 slice-aggregate-result-4 c = search needs
 
--- src/lib.rt:70:9
 returns-4 : tie.Need-returns-4
 returns-4 c = λ t next l. text-past (c .before .before .before .before .before .before .before .cell .ensures) (c .before .before .before .before .before .before .cell2 .ensures) (c .before .before .before .before .before .cell3 .ensures) l (c .before .if4 .taken)
 
--- src/lib.rt:72:5
 part-result-start : tie.Need-part-result-start
 part-result-start c = search needs
 
--- src/lib.rt:72:5
 part-result-end : tie.Need-part-result-end
 part-result-end c = search needs
 
--- src/lib.rt:54:1
 returns-5 : tie.Need-returns-5
 returns-5 c = λ t next l. text-there (c .before .before .before .before .before .before .before .cell .ensures) (c .before .before .before .before .before .before .cell2 .ensures) (c .before .before .before .before .before .cell3 .ensures) l (c .before .before .before .if2 .left)
 
