@@ -1,35 +1,36 @@
 -- What leaves say as numbers, and the exact sum of amounts, payment after payment.
-use Prim.Native.Nat.{ℕ, suc, _+_, _*_, _-_, _^_, _≤_, _<_}
+use Prim.Native.Nat.{ℕ, _+_, _*_, _-_, _^_, _≤_, _<_}
 use mathlib.Core.List.{List, [], _∷_, map}
 use mathlib.Core.Option.{Option, none, some}
 use mathlib.Core.Bool.{Bool, true, false}
 use mathlib.Core.Path.{_≡_, refl, sym, ap, _∙_, subst}
 use native.Mathlib.Omega.{arith}
 use lib.ListN.{length, getD}
-use lib.Dec.{eqb, ltb}
+use lib.Dec.{eqb}
 use borrow.Author.Tests.{ne-eqb, lt-ltb, le-ltb}
 use Rattle.paper.specs.Bytes.{if_then_else_}
 use Rattle.paper.specs.Form.{Element}
-use Rattle.paper.specs.Rows.{rows, head-of}
+use Rattle.paper.specs.Rows.{rows}
 use Rattle.paper.specs.Values.{number, cents, digits, money}
 use Rattle.paper.specs.Payments.{Payment, text-of, follow, of-header, payments, amount-of, sum-of, total}
-use Rattle.paper.specs.Refusals.{refuse, at-of, total-refusal}
-use Rattle.paper.specs.Accepted.{All, all-none, all-more}
-use Rattle.paper.proofs.Laws.{false-not-true}
+use Rattle.paper.specs.Refusals.{Refusal, refuse, at-of, total-refusal}
+use Rattle.paper.specs.Accepted.{All, all-more}
+use Rattle.paper.proofs.Laws.{false-not-true, some-not-none}
 use Rattle.numbers.specs.declared.Reading.{Reading}
 use Rattle.numbers.specs.declared.Reading.the-variants.{Not, Number}
 use Rattle.numbers.specs.Readings.{counted, in-cents}
 use Rattle.tree.specs.Laid.{Laid}
 use Rattle.tree.proofs.Laws.{Cell, at-cell, entry-of}
 use Rattle.order.specs.Finds.{Finds}
-use Rattle.order.specs.Ordered.{PaymentAt, PaymentsAt, no-payments, more-payments, Ordered}
+use Rattle.order.specs.Ordered.{PaymentAt, PaymentsAt, no-payments, more-payments}
 use Rattle.order.specs.declared.Found.{Found}
 use Rattle.order.specs.declared.Found.the-variants.{At, Nothing}
-use Rattle.order.proofs.WhatIsFound.{found-none, found-some, FoundAt}
+use Rattle.order.proofs.WhatIsFound.{found-none, found-some}
 use Rattle.counts.specs.declared.Sum.{Sum}
 use Rattle.counts.specs.declared.Sum.the-variants as sum
+use Rattle.counts.specs.declared.Total.{Total}
 use Rattle.counts.specs.declared.Total.the-variants as totalled
-use Rattle.counts.specs.Counted.{ReadMoney, ReadPayment, Readable, Sums, sums-to, sums-above, Totals, total-is, total-above}
+use Rattle.counts.specs.Counted.{ReadMoney, ReadPayment, Sums, sums-to, sums-above, Totals, total-is, total-above}
 use Rattle.counts.proofs.Leaves.{stands-at}
 use Rattle.counts.proofs.Repeats.{one-fewer}
 
@@ -200,6 +201,20 @@ module _ {root : Element} where
   unfolding total total-refusal
   total-exceeds (sums-to e b) d f = let z : _≡_ {A = ℕ} 0 1 = cc in absurd (omega (arith, z))
   total-exceeds {at = at} (sums-above h) d f = total-above {offset = at} (rw (le-ltb (amounts (payments rows root)) (2 ^ 64) h) (ap (refuse 21 7) (sym f)))
+
+same-above : (m n : ℕ) → refuse 21 7 m ≡ refuse 21 7 n → totalled.TooLarge m ≡ totalled.TooLarge n
+unfolding refuse
+same-above m n p =
+    let x : _≡_ {A = Refusal} (record { number = 21; element = 7; offset = m }) (record { number = 21; element = 7; offset = n }) = cc in
+    ap totalled.TooLarge (ap (λ (r : Refusal). r .offset) x)
+
+-- Two answers that meet `total_cents`'s contract agree.
+pub totals-agree : {root : Element} {a b : Total} → Totals root a → Totals root b → a ≡ b
+unfolding refuse
+totals-agree (total-is p q) (total-is p' q') = cc
+totals-agree (total-is p q) (total-above p') = some-not-none (sym p' ∙ p)
+totals-agree (total-above p) (total-is p' q') = some-not-none (sym p ∙ p')
+totals-agree (total-above p) (total-above p') = same-above _ _ (sym p ∙ p')
 
 -- one number of cents and a sum
 module _ {n : ℕ} (c : ℕ) where

@@ -10,7 +10,7 @@ use lib.Dec.{eqb}
 use Rattle.paper.specs.Form.{Element}
 use Rattle.paper.specs.Rows.{rows}
 use Rattle.paper.specs.Values.{number, cents}
-use Rattle.paper.specs.Payments.{Payment, child, all-of, blocks, of-header, payments-of, payments-from, payments, sum-of, total}
+use Rattle.paper.specs.Payments.{Payment, child, all-of, blocks, payments-of, payments-from, payments, sum-of, total}
 use Rattle.paper.specs.Refusals.{Refusal, unless, _or-else_, block-counts, counts-refusal}
 use Rattle.paper.specs.Answers.{refusal-found}
 use Rattle.paper.specs.Accepted.{All, all-none, all-more}
@@ -19,11 +19,11 @@ use Rattle.paper.specs.declared.Finding.{Finding}
 use Rattle.paper.specs.declared.Finding.the-variants as finding
 use Rattle.paper.proofs.Findings.{found-first}
 use Rattle.tree.specs.Laid.{Laid}
-use Rattle.order.specs.Ordered.{BlocksAt, PaymentAt, PaymentsAt, no-payments, more-payments, Ordered}
+use Rattle.order.specs.Ordered.{PaymentsAt, no-payments, more-payments, Ordered}
 use Rattle.counts.specs.Counted.{ReadBlock, ReadPayment, Readable, InBlock, BehindBlock, BlocksFrom, block-refusal, header-refusal}
 use Rattle.counts.proofs.Leaves.{later}
-use Rattle.counts.proofs.Repeats.{FirstBlock, first-block, no-block-left, one-fewer}
-use Rattle.counts.proofs.Amounts.{FirstPayment, first-payment, first-has, others-have, amounts}
+use Rattle.counts.proofs.Repeats.{first-block, no-block-left, one-fewer}
+use Rattle.counts.proofs.Amounts.{first-payment, first-has, others-have, amounts}
 
 -- Payment i is next, of n, and these of block k's payments are left.
 pub record Passing (s tree out : List ℕ) (k : ℕ) (ps rest : List Payment) (from i n : ℕ) : Type 0 where

@@ -1,27 +1,26 @@
 -- What a leaf holds: the text of an element, and the refusal where it is not as it should be.
-use Prim.Native.Nat.{ℕ, _+_, _-_, _≤_, _<_}
-use mathlib.Core.List.{List, [], _∷_}
-use mathlib.Core.Option.{Option, none, some}
+use Prim.Native.Nat.{ℕ, _-_, _≤_, _<_}
+use mathlib.Core.List.{List, []}
+use mathlib.Core.Option.{Option, some}
 use mathlib.Core.Bool.{Bool, true, false}
 use mathlib.Core.Path.{_≡_, refl, sym, ap, _∙_, subst}
 use native.Mathlib.Omega.{arith}
 use lib.ListN.{length, take, drop}
-use Rattle.paper.specs.Bytes.{if_then_else_}
-use Rattle.paper.specs.Form.{Element, holding-text, holding-elements}
-use Rattle.paper.specs.Rows.{rows, row-of, head-of}
+use Rattle.paper.specs.Form.{Element}
+use Rattle.paper.specs.Rows.{rows, row-of}
 use Rattle.paper.specs.Payments.{text-of, child, follow}
 use Rattle.paper.specs.Refusals.{Refusal, refuse, unless, _or-else_}
 use Rattle.paper.specs.Answers.{refusal-found, refusal-of, numbered}
 use Rattle.paper.specs.declared.Fault.{Fault}
 use Rattle.paper.specs.declared.Finding.{Finding}
 use Rattle.paper.specs.declared.Finding.the-variants as finding
-use Rattle.tree.specs.Laid.{between, Laid, laid-text, laid-elements}
+use Rattle.tree.specs.Laid.{Laid, laid-text, laid-elements}
 use Rattle.tree.proofs.Laws.{Cell, at-cell, start-cell, close-cell, next-cell, entry-of}
 use Rattle.order.specs.Finds.{Finds, child-named, along, names-of}
 use Rattle.order.specs.declared.Found.{Found}
 use Rattle.order.specs.declared.Found.the-variants.{At, Nothing}
 use Rattle.order.proofs.Laws.{child-is, follow-is}
-use Rattle.order.proofs.WhatIsFound.{found-none, found-some, FoundAt}
+use Rattle.order.proofs.WhatIsFound.{found-none, found-some}
 
 -- the text of an element, by three of its numbers
 module _ {s tree : List ℕ} {i start close after : ℕ} (a : Cell tree i 2 start) (b : Cell tree i 3 close) (c : Cell tree i 4 after) where

@@ -21,7 +21,7 @@ use Rattle.order.specs.Ordered.{BlocksAt, no-blocks, more-blocks, Ordered}
 use Rattle.order.specs.declared.Found.{Found}
 use Rattle.order.specs.declared.Found.the-variants.{At, Nothing}
 use Rattle.order.specs.Finds.{Finds}
-use Rattle.order.proofs.WhatIsFound.{found-none, found-some, FoundAt}
+use Rattle.order.proofs.WhatIsFound.{found-none, found-some}
 use Rattle.counts.specs.Counted.{with-id, with-ids, id-refusal}
 use Rattle.counts.proofs.Leaves.{later}
 

@@ -323,10 +323,10 @@ fn in_header(s: &[u8], tree: &[u16], payments: usize, total: u64) -> Finding
     ensures { λ r. ⌜ ((root : Element) (next : ℕ) → Laid (now (s .entry)) (now (tree .entry)) root 0 next → ReadCount (of-header rows 6 root) → ReadMoney (of-header rows 7 root) → refusal-found r ≡ header-refusal payments total root) ⌝ }
 {
     let stated_count = order::follow3(s, tree, 0, b"CstmrCdtTrfInitn", b"GrpHdr", b"NbOfTxs");
-    let count = count_is(s, tree, stated_count, 6, payments);
+    let count_found = count_is(s, tree, stated_count, 6, payments);
     let stated_sum = order::follow3(s, tree, 0, b"CstmrCdtTrfInitn", b"GrpHdr", b"CtrlSum");
-    let sum = sum_is(s, tree, stated_sum, 7, Sum::Cents(total));
-    first_found(count, sum)
+    let sum_found = sum_is(s, tree, stated_sum, 7, Sum::Cents(total));
+    first_found(count_found, sum_found)
 }
 
 // 12 and 13: header count, header sum, then each block's count and sum.

@@ -1,4 +1,4 @@
-use mathlib.Core.Path.{refl, sym, ap, _∙_}
+use mathlib.Core.Path.{refl}
 use Rattle.paper.specs.Bytes.{bytes}
 use Rattle.paper.specs.Rows.{rows, row-of, leaf, group, group-under}
 use Rattle.paper.specs.Payments.{text-of}

@@ -1,4 +1,4 @@
-use mathlib.Core.Path.{refl, sym, ap, _∙_}
+use mathlib.Core.Path.{refl}
 use mathlib.Core.List.{[], _∷_}
 use Rattle.paper.specs.Bytes.{bytes}
 use Rattle.paper.specs.Rows.{rows, row-of, leaf, group, group-under}
