@@ -16,6 +16,7 @@ ghost use Rattle.paper.specs.Refusals.{tree-refusal, values-refusal, usage-refu
 ghost use Rattle.tree.specs.Laid.{Laid};
 ghost use Rattle.order.specs.Ordered.{Ordered};
 ghost use Rattle.reader.specs.Decided.{Shaped, Passes, Decided};
+ghost use Rattle.reader.specs.Answers.{Answers};
 
 // 1 and 2; where neither refuses, the tree is laid out.
 fn shape(s: &[u8], tree: &mut [u16]) -> Finding
@@ -97,4 +98,23 @@ pub fn outcome(s: &[u8], tree: &mut [u16], order: &mut [u16]) -> Verdict
         return Verdict::Refused(fault);
     }
     stages(s, tree, order)
+}
+
+// The verdict on a message. Where it is accepted, the lent table holds its payments; otherwise the table is as it was.
+pub fn verdict(message: &[u8], table: &mut [u32]) -> Verdict
+    ensures { λ r. ⌜ Answers (now (message .entry)) (now (table .entry)) r (now (table .exit)) ⌝ }
+{
+    if table.len() < 1024 {
+        return Verdict::Refused(Fault::TableTooShort);
+    }
+    let mut tree = [0u16; 54615];
+    let mut order = [0u16; 208];
+    let found = outcome(message, &mut tree, &mut order);
+    match found {
+        Verdict::Refused(fault) => Verdict::Refused(fault),
+        Verdict::Accepted { blocks, payments, cents } => {
+            table::fill(message, &tree, &order, payments, table);
+            Verdict::Accepted { blocks, payments, cents }
+        }
+    }
 }
