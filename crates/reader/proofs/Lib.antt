@@ -2,3 +2,4 @@
 pub mod Readable
 pub mod Fits
 pub mod InTurn
+pub mod Verdicts

@@ -112,9 +112,17 @@ pub fn verdict(message: &[u8], table: &mut [u32]) -> Verdict
     let found = outcome(message, &mut tree, &mut order);
     match found {
         Verdict::Refused(fault) => Verdict::Refused(fault),
-        Verdict::Accepted { blocks, payments, cents } => {
+        Verdict::Accepted {
+            blocks,
+            payments,
+            cents,
+        } => {
             table::fill(message, &tree, &order, payments, table);
-            Verdict::Accepted { blocks, payments, cents }
+            Verdict::Accepted {
+                blocks,
+                payments,
+                cents,
+            }
         }
     }
 }
