@@ -22,11 +22,12 @@ fn number(table: &[u32], i: usize, k: usize) -> u64 {
     wide(table[at])
 }
 
-fn part(message: &[u8], table: &[u32], i: usize, k: usize) {
+// The part of the message whose start and length are numbers `start` and `size` of payment i.
+fn part(message: &[u8], table: &[u32], i: usize, start: usize, size: usize) {
     printing::part(
         message,
-        number(table, i, k) as usize,
-        number(table, i, k + 1) as usize,
+        number(table, i, start) as usize,
+        number(table, i, size) as usize,
     );
 }
 
@@ -47,13 +48,13 @@ fn payment(message: &[u8], table: &[u32], i: usize) {
     printing::text(b" ");
     printing::number(number(table, i, 0));
     printing::text(b" ");
-    part(message, table, i, 11);
+    part(message, table, i, 11, 12);
     printing::text(b" ");
-    part(message, table, i, 3);
+    part(message, table, i, 3, 4);
     printing::text(b" ");
     printing::number(cents(table, i));
     printing::text(b" ");
-    part(message, table, i, 1);
+    part(message, table, i, 1, 2);
     printing::text(b"\n");
 }
 
