@@ -5,17 +5,16 @@ use mathlib.Core.List.{List, [], _∷_, _++_}
 use mathlib.Core.Option.{Option, none, some}
 use mathlib.Core.Bool.{Bool, true, false, _&&_}
 use mathlib.Core.Path.{_≡_, refl, sym, ap, _∙_, subst}
-use lib.ListN.{length, getD, take, drop}
+use lib.ListN.{length, getD, drop}
 use lib.Seq.{drop-cons}
 use lib.Dec.{eqb}
-use borrow.Author.Tests.{eq-eqb, eqb-true}
-use Rattle.paper.specs.Bytes.{if_then_else_, bytes, same}
-use Rattle.paper.specs.Form.{Element, holding-text, holding-elements}
-use Rattle.paper.specs.Rows.{rows, head-of}
+use Rattle.paper.specs.Bytes.{bytes, same}
+use Rattle.paper.specs.Form.{Element}
+use Rattle.paper.specs.Rows.{rows}
 use Rattle.paper.specs.Values.{money, cents}
 use Rattle.paper.specs.Payments.{Payment, text-of, follow, in-payment, amount-of}
 use Rattle.paper.specs.Fields.{Value, given, given-or, remittance, same-value, field-elements, field-element, values-of, differ-from}
-use Rattle.paper.proofs.Laws.{false-not-true, some-not-none, both-left, both-right}
+use Rattle.paper.proofs.Laws.{false-not-true, some-not-none, both-left, same-tests}
 use Rattle.numbers.specs.Readings.{in-cents}
 use Rattle.numbers.specs.declared.Reading.{Reading}
 use Rattle.numbers.specs.declared.Reading.the-variants.{Not, Number}
@@ -96,14 +95,9 @@ module _ (w : List ℕ) (o u : Option Element) where
   unfolding given-or
   both-said p q e = rw (p, q) e
 
-same-itself : (w : List ℕ) → same w w ≡ true
-unfolding same
-same-itself [] = refl
-same-itself (b ∷ w) = rw (eq-eqb b b refl, same-itself w)
-
 pub meant : (w : List ℕ) {o : Option Element} → o ≡ none → true ≡ same-value (w ∷ []) (given-or w o)
 unfolding given-or same-value
-meant w p = sym (rw (p, same-itself w))
+meant w p = sym (rw (p, same-tests w))
 
 pub said : (w : List ℕ) {o : Option Element} {t : Element} {r : Bool} → o ≡ some t → r ≡ same-value (w ∷ []) (text-of t ∷ []) → r ≡ same-value (w ∷ []) (given-or w o)
 unfolding given-or

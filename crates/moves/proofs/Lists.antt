@@ -1,7 +1,6 @@
 -- The file of the regrouping list, read by places.
 use Prim.Native.Nat.{ℕ, zero, suc, _+_, _*_, _<_, _≤_}
 use native.Mathlib.Omega.{arith}
-use native.Mathlib.Nat.{add-zero}
 use mathlib.Core.List.{List, [], _∷_}
 use mathlib.Core.Option.{Option, none, some}
 use mathlib.Core.Bool.{Bool, true, false, _&&_}
@@ -14,7 +13,6 @@ use Rattle.paper.specs.Bytes.{if_then_else_, bytes, same}
 use Rattle.paper.specs.Regrouping.{add-first, numbers-16, counted, ordinals-of}
 use Rattle.paper.proofs.Laws.{false-not-true, some-not-none, both-left, both-right}
 use Rattle.moves.specs.Lists.{how-many}
-use Rattle.moves.specs.declared.Listed.{Listed}
 use Rattle.moves.specs.declared.Listed.the-variants.{NotOfTheForm, Ordinals}
 
 -- past the end of a file

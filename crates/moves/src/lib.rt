@@ -10,11 +10,13 @@ ghost use Rattle.paper.specs.Form.{Element};
 ghost use Rattle.paper.specs.Rows.{rows};
 ghost use Rattle.paper.specs.Payments.{Payment, text-of};
 ghost use Rattle.paper.specs.Fields.{given, given-or, remittance, same-value, values-of, differ-from};
-ghost use Rattle.paper.specs.Regrouping.{ordinals-of};
+ghost use Rattle.paper.specs.Regrouping.{ordinals-of, pairing, all-values};
 ghost use Rattle.tree.specs.Laid.{Laid};
 ghost use Rattle.order.specs.Finds.{Finds};
+ghost use Rattle.order.specs.Ordered.{PaymentAt};
 ghost use Rattle.moves.specs.Lists.{how-many};
-ghost use Rattle.moves.specs.Compared.{cents-of, IsMoney, InPayment, free-of, issuer-of, reference-of, Stands, value-at, lowest};
+ghost use Rattle.moves.specs.Compared.{cents-of, IsMoney, InPayment, free-of, issuer-of, reference-of, amount-in, Stands, value-at, lowest};
+ghost use Rattle.moves.specs.Pairs.{InOrder, answer-of};
 
 // What the list's file holds.
 pub enum Listed {
@@ -284,4 +286,84 @@ pub fn differing(
         field += 1;
     }
     Field::Same
+}
+
+// What is said of the pairs of payments that a list names.
+pub enum Paired {
+    Accepted,
+    OrdinalTooLarge { k: usize },
+    NamedBefore { k: usize },
+    FieldsDiffer { k: usize, field: usize },
+}
+
+// A number of the order; 0 where it has none.
+fn placed(order: &[u16], at: usize) -> usize
+    ensures { λ r. ⌜ r ≡ getD (now (order .entry)) at 0 ⌝ }
+{
+    if order.len() <= at {
+        return 0;
+    }
+    order[at] as usize
+}
+
+// The lowest field in which payment o of the first message and payment k of the second differ.
+fn differing_pair(
+    s1: &[u8],
+    tree1: &[u16],
+    order1: &[u16],
+    o: usize,
+    s2: &[u8],
+    tree2: &[u16],
+    order2: &[u16],
+    k: usize,
+) -> Field
+    ensures { λ r. ⌜ (o < 64 → k < 64 → (p q : Payment) → PaymentAt (now (s1 .entry)) (now (tree1 .entry)) (now (order1 .entry)) o p → IsMoney (amount-in p) → PaymentAt (now (s2 .entry)) (now (tree2 .entry)) (now (order2 .entry)) k q → IsMoney (amount-in q) → lowest r ≡ differ-from 1 (values-of rows p) (values-of rows q)) ⌝ }
+{
+    if 64 <= o {
+        return Field::Same;
+    }
+    if 64 <= k {
+        return Field::Same;
+    }
+    let own1 = placed(order1, 16 + 3 * o);
+    let block1 = placed(order1, 17 + 3 * o);
+    let own2 = placed(order2, 16 + 3 * k);
+    let block2 = placed(order2, 17 + 3 * k);
+    differing(s1, tree1, own1, block1, s2, tree2, own2, block2)
+}
+
+// For each k in turn: the ordinal is too large, its payment was named before, a field differs. Named payments are marked by their ordinals.
+pub fn pairing(
+    s1: &[u8],
+    tree1: &[u16],
+    order1: &[u16],
+    s2: &[u8],
+    tree2: &[u16],
+    order2: &[u16],
+    list: &[u8],
+    payments: usize,
+) -> Paired
+    ensures { λ r. ⌜ ((root1 root2 : Element) (ks : List ℕ) → InOrder (now (s1 .entry)) (now (tree1 .entry)) (now (order1 .entry)) payments root1 → InOrder (now (s2 .entry)) (now (tree2 .entry)) (now (order2 .entry)) payments root2 → ordinals-of (now (list .entry)) ≡ some ks → length ks ≡ payments → answer-of r ≡ pairing (all-values rows root1) 0 [] ks (all-values rows root2)) ⌝ }
+{
+    let mut marks = [0u8; 64];
+    let mut k = 0;
+    while k < payments {
+        let o = ordinal(list, k);
+        if payments <= o {
+            return Paired::OrdinalTooLarge { k };
+        }
+        if 64 <= o {
+            return Paired::OrdinalTooLarge { k };
+        }
+        if marks[o] == 1 {
+            return Paired::NamedBefore { k };
+        }
+        marks[o] = 1;
+        let compared = differing_pair(s1, tree1, order1, o, s2, tree2, order2, k);
+        if let Field::Differs(field) = compared {
+            return Paired::FieldsDiffer { k, field };
+        }
+        k += 1;
+    }
+    Paired::Accepted
 }

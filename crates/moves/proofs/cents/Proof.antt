@@ -3,44 +3,31 @@ use Rattle.order.proofs.WhatIsFound.{found-none, found-some}
 use borrow.Author.Needs.{needs}
 use Rattle.moves.proofs.cents.Statement.{statement}
 use Rattle.moves.proofs.cents.Tie as tie
-use Rattle.moves.proofs.cents.Reads as reads
-use Rattle.moves.proofs.cents.Lts as lts
-use Rattle.moves.proofs.text.Reads as text-reads
-use Rattle.numbers.proofs.money_cents.Reads as money-cents-reads
 
--- src/lib.rt:155:19
 enum-known-found : tie.Need-enum-known-found
 enum-known-found c = search needs
 
--- src/lib.rt:156:9
 enum-told : tie.Need-enum-told
 enum-told c = search needs
 
--- src/lib.rt:156:9
 returns : tie.Need-returns
 returns c = λ o f m. no-cents (found-none f (c .enum-told .given .1))
 
--- src/lib.rt:158:40
 text-requires : tie.Need-text-requires
 text-requires c κs = search needs
 
--- src/lib.rt:158:9
 money-cents-requires : tie.Need-money-cents-requires
 money-cents-requires c κs = search needs
 
--- src/lib.rt:160:25
 enum-told-2 : tie.Need-enum-told-2
 enum-told-2 c = search needs
 
--- src/lib.rt:161:25
 enum-known-reading : tie.Need-enum-known-reading
 enum-known-reading c = search needs
 
--- src/lib.rt:152:1
 returns-2 : tie.Need-returns-2
 returns-2 c = λ o f m. let t = found-some f (c .before .before .before .before .before .found .given .1) in is-cents (t .is-it) m (c .before .before .before .text .ensures (t .it) (t .next) (t .laid)) (c .before .before .money-cents .ensures) (c .enum-told2 .given .1)
 
--- src/lib.rt:152:1
 returns-3 : tie.Need-returns-3
 returns-3 c = λ o f m. let t = found-some f (c .before .before .before .before .before .before .found .given .1) in its-cents (t .is-it) m (c .before .before .before .before .text .ensures (t .it) (t .next) (t .laid)) (c .before .before .before .money-cents .ensures) (c .before .reading .given .1)
 

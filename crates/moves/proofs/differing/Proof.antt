@@ -10,9 +10,6 @@ use Rattle.paper.specs.Fields.{values-of, differ-from}
 use Rattle.moves.specs.Compared.{Stands, lowest}
 use Rattle.moves.proofs.differing.Statement.{statement}
 use Rattle.moves.proofs.differing.Tie as tie
-use Rattle.moves.proofs.differing.Reads as reads
-use Rattle.moves.proofs.differing.Lts as lts
-use Rattle.moves.proofs.same_field.Reads as same-field-reads
 
 abbrev Inv-loop : tie.InvT-loop
 Inv-loop s1 tree1 own1 block1 s2 tree2 own2 block2 field₀ field =
@@ -22,32 +19,25 @@ Inv-loop s1 tree1 own1 block1 s2 tree2 own2 block2 field₀ field =
 abbrev μ-loop : tie.MeasureT-loop
 μ-loop s1 tree1 own1 block1 s2 tree2 own2 block2 field₀ field = 18 - field
 
--- src/lib.rt:280:5
 loop-holds : tie.Need-loop-holds Inv-loop μ-loop
 loop-holds c = (search needs, search needs, λ p q g h. refl)
 
--- src/lib.rt:281:13
 same-field-requires : tie.Need-same-field-requires Inv-loop μ-loop
 same-field-requires c κs = search needs
 
--- src/lib.rt:282:13
 returns : tie.Need-returns Inv-loop μ-loop
 unfolding lowest
 returns c = λ p q g h. field-differs p q _ (c .before .before .before .loop .inv .0) (c .before .before .loop-test .taken) (c .before .same-field .ensures p q g h (omega arith) (omega arith)) (not-true _ (c .if1 .taken)) ∙ sym (c .before .before .before .loop .inv .2 p q g h)
 
--- src/lib.rt:284:9
 add-field : tie.Need-add-field Inv-loop μ-loop
 add-field c = search needs
 
--- src/lib.rt:280:5
 loop-less : tie.Need-loop-less Inv-loop μ-loop
 loop-less c = search needs
 
--- src/lib.rt:280:5
 loop-again : tie.Need-loop-again Inv-loop μ-loop
 loop-again c = (search needs, search needs, λ p q g h. c .before .before .before .loop .inv .2 p q g h ∙ field-agrees p q _ (c .before .before .before .loop .inv .0) (c .before .before .loop-test .taken) (c .before .same-field .ensures p q g h (omega arith) (omega arith)) (not-false _ (c .if1 .left)))
 
--- src/lib.rt:267:1
 returns-2 : tie.Need-returns-2 Inv-loop μ-loop
 unfolding lowest
 returns-2 c = λ p q g h. no-field-differs p q (omega arith) ∙ sym (c .before .loop .inv .2 p q g h)

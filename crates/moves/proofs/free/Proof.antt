@@ -7,23 +7,16 @@ use Rattle.moves.proofs.Compared.{in-payment-found}
 use borrow.Author.Needs.{needs}
 use Rattle.moves.proofs.free.Statement.{statement}
 use Rattle.moves.proofs.free.Tie as tie
-use Rattle.moves.proofs.free.Reads as reads
-use Rattle.moves.proofs.free.Lts as lts
-use Rattle.order.proofs.follow2.Reads as follow2-reads
 
--- src/lib.rt:169:34
 slice-aggregate-follow2 : tie.Need-slice-aggregate-follow2
 slice-aggregate-follow2 c = search needs
 
--- src/lib.rt:169:45
 slice-aggregate-follow2-2 : tie.Need-slice-aggregate-follow2-2
 slice-aggregate-follow2-2 c = search needs
 
--- src/lib.rt:169:5
 follow2-requires : tie.Need-follow2-requires
 follow2-requires c κs = search needs
 
--- src/lib.rt:166:1
 returns : tie.Need-returns
 unfolding names-of row-of rows leaf group group-under bytes
 returns c = in-payment-found (48 ∷ 49 ∷ []) refl (c .follow2 .ensures)

@@ -7,40 +7,28 @@ use Rattle.moves.proofs.Compared.{in-payment-found}
 use borrow.Author.Needs.{needs}
 use Rattle.moves.proofs.issuer.Statement.{statement}
 use Rattle.moves.proofs.issuer.Tie as tie
-use Rattle.moves.proofs.issuer.Reads as reads
-use Rattle.moves.proofs.issuer.Lts as lts
-use Rattle.order.proofs.child_under.Reads as child-under-reads
-use Rattle.order.proofs.follow4.Reads as follow4-reads
 
--- src/lib.rt:175:45
 slice-aggregate-follow4 : tie.Need-slice-aggregate-follow4
 slice-aggregate-follow4 c = search needs
 
--- src/lib.rt:175:56
 slice-aggregate-follow4-2 : tie.Need-slice-aggregate-follow4-2
 slice-aggregate-follow4-2 c = search needs
 
--- src/lib.rt:175:65
 slice-aggregate-follow4-3 : tie.Need-slice-aggregate-follow4-3
 slice-aggregate-follow4-3 c = search needs
 
--- src/lib.rt:175:80
 slice-aggregate-follow4-4 : tie.Need-slice-aggregate-follow4-4
 slice-aggregate-follow4-4 c = search needs
 
--- src/lib.rt:175:9
 follow4-requires : tie.Need-follow4-requires
 follow4-requires c κs = search needs
 
--- src/lib.rt:176:39
 slice-aggregate-child-under : tie.Need-slice-aggregate-child-under
 slice-aggregate-child-under c = search needs
 
--- src/lib.rt:176:5
 child-under-requires : tie.Need-child-under-requires
 child-under-requires c κs = search needs
 
--- src/lib.rt:172:1
 returns : tie.Need-returns
 unfolding names-of row-of rows leaf group group-under bytes along
 returns c = in-payment-found (48 ∷ 50 ∷ 51 ∷ 52 ∷ 54 ∷ []) refl (λ t next l. c .child-under .ensures _ (c .before .before .follow4 .ensures t next l))

@@ -4,32 +4,22 @@ use mathlib.Core.Path.{refl}
 use borrow.Author.Needs.{needs}
 use Rattle.moves.proofs.means.Statement.{statement}
 use Rattle.moves.proofs.means.Tie as tie
-use Rattle.moves.proofs.means.Reads as reads
-use Rattle.moves.proofs.means.Lts as lts
-use Rattle.moves.proofs.text.Reads as text-reads
-use Rattle.texts.proofs.same.Reads as same-reads
 
--- src/lib.rt:105:19
 enum-known-found : tie.Need-enum-known-found
 enum-known-found c = search needs
 
--- src/lib.rt:106:9
 enum-told : tie.Need-enum-told
 enum-told c = search needs
 
--- src/lib.rt:106:9
 returns : tie.Need-returns
 returns c = λ o f. meant (c .before .before .before .before .before .args .otherwise .now) (found-none f (c .enum-told .given .1))
 
--- src/lib.rt:108:28
 text-requires : tie.Need-text-requires
 text-requires c κs = search needs
 
--- src/lib.rt:108:5
 same-requires : tie.Need-same-requires
 same-requires c κs = search needs
 
--- src/lib.rt:102:1
 returns-2 : tie.Need-returns-2
 returns-2 c = λ o f. let t = found-some f (c .before .before .before .found .given .1) in said (c .before .before .before .before .before .before .before .before .args .otherwise .now) (t .is-it) (one-text (c .same .ensures) refl (c .before .text .ensures (t .it) (t .next) (t .laid)))
 

@@ -4,35 +4,25 @@ use Rattle.moves.proofs.Lists.{past-list, formed, ordinal-is}
 use borrow.Author.Needs.{needs}
 use Rattle.moves.proofs.ordinal.Statement.{statement}
 use Rattle.moves.proofs.ordinal.Tie as tie
-use Rattle.moves.proofs.ordinal.Reads as reads
-use Rattle.moves.proofs.ordinal.Lts as lts
-use Rattle.moves.proofs.number_at.Reads as number-at-reads
 
--- src/lib.rt:57:9
 returns : tie.Need-returns
 returns c = λ ks e. past-list (c .before .before .args .list .now) ks _ (omega arith) e
 
--- src/lib.rt:59:8
 sub-if2 : tie.Need-sub-if2
 sub-if2 c = search needs
 
--- src/lib.rt:60:9
 returns-2 : tie.Need-returns-2
 returns-2 c = λ ks e. past-list (c .before .before .before .args .list .now) ks _ (omega arith) e
 
--- src/lib.rt:62:25
 mul-number-at : tie.Need-mul-number-at
 mul-number-at c = search needs
 
--- src/lib.rt:62:21
 add-number-at : tie.Need-add-number-at
 add-number-at c = search needs
 
--- src/lib.rt:62:5
 number-at-requires : tie.Need-number-at-requires
 number-at-requires c κs = search needs
 
--- src/lib.rt:53:1
 returns-3 : tie.Need-returns-3
 returns-3 c = λ ks e. c .number-at .ensures .0 ∙ ordinal-is (formed (c .before .before .before .before .args .list .now) ks e) _
 

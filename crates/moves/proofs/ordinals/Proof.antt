@@ -4,65 +4,47 @@ use Rattle.moves.proofs.Lists.{too-short, other-tag, other-version, oth
 use borrow.Author.Needs.{needs}
 use Rattle.moves.proofs.ordinals.Statement.{statement}
 use Rattle.moves.proofs.ordinals.Tie as tie
-use Rattle.moves.proofs.ordinals.Reads as reads
-use Rattle.moves.proofs.ordinals.Lts as lts
-use Rattle.moves.proofs.number_at.Reads as number-at-reads
-use Rattle.texts.proofs.same.Reads as same-reads
 
--- src/lib.rt:37:9
 returns : tie.Need-returns
 returns c = too-short (c .before .before .args .list .now) (c .if1 .taken)
 
--- src/lib.rt:39:21
 sub-same : tie.Need-sub-same
 sub-same c = search needs
 
--- src/lib.rt:39:21
 part-same-start : tie.Need-part-same-start
 part-same-start c = search needs
 
--- src/lib.rt:39:21
 part-same-end : tie.Need-part-same-end
 part-same-end c = search needs
 
--- src/lib.rt:39:34
 slice-aggregate-same : tie.Need-slice-aggregate-same
 slice-aggregate-same c = search needs
 
--- src/lib.rt:39:9
 same-requires : tie.Need-same-requires
 same-requires c κs = search needs
 
--- src/lib.rt:40:9
 returns-2 : tie.Need-returns-2
 unfolding bytes
 returns-2 c = other-tag (c .before .before .before .before .before .before .args .list .now) (c .before .same .ensures) (not-true _ (c .if2 .taken))
 
--- src/lib.rt:42:8
 number-at-requires : tie.Need-number-at-requires
 number-at-requires c κs = search needs
 
--- src/lib.rt:43:9
 returns-3 : tie.Need-returns-3
 returns-3 c = other-version (c .before .before .before .before .before .before .before .before .args .list .now) (c .before .number-at .ensures .0) (c .if3 .taken)
 
--- src/lib.rt:45:9
 number-at-requires-2 : tie.Need-number-at-requires-2
 number-at-requires-2 c κs = search needs
 
--- src/lib.rt:46:26
 mul-if4 : tie.Need-mul-if4
 mul-if4 c = search needs
 
--- src/lib.rt:46:22
 add-if4 : tie.Need-add-if4
 add-if4 c = search needs
 
--- src/lib.rt:47:9
 returns-4 : tie.Need-returns-4
 returns-4 c = other-count (c .before .before .before .before .before .before .before .before .before .before .args .list .now) (c .before .number-at2 .ensures .0) (c .if4 .taken)
 
--- src/lib.rt:33:1
 returns-5 : tie.Need-returns-5
 unfolding bytes
 returns-5 c = of-the-form (c .before .before .before .before .before .before .before .before .before .before .args .list .now) (c .before .before .before .before .before .same .ensures) (not-false _ (c .before .before .before .before .if2 .left)) (c .before .before .before .number-at .ensures .0) (c .before .before .if3 .left) (c .before .number-at2 .ensures .0) (c .if4 .left)

@@ -7,31 +7,22 @@ use Rattle.moves.proofs.Compared.{in-payment-found}
 use borrow.Author.Needs.{needs}
 use Rattle.moves.proofs.reference.Statement.{statement}
 use Rattle.moves.proofs.reference.Tie as tie
-use Rattle.moves.proofs.reference.Reads as reads
-use Rattle.moves.proofs.reference.Lts as lts
-use Rattle.order.proofs.follow4.Reads as follow4-reads
 
--- src/lib.rt:182:34
 slice-aggregate-follow4 : tie.Need-slice-aggregate-follow4
 slice-aggregate-follow4 c = search needs
 
--- src/lib.rt:182:45
 slice-aggregate-follow4-2 : tie.Need-slice-aggregate-follow4-2
 slice-aggregate-follow4-2 c = search needs
 
--- src/lib.rt:182:54
 slice-aggregate-follow4-3 : tie.Need-slice-aggregate-follow4-3
 slice-aggregate-follow4-3 c = search needs
 
--- src/lib.rt:182:69
 slice-aggregate-follow4-4 : tie.Need-slice-aggregate-follow4-4
 slice-aggregate-follow4-4 c = search needs
 
--- src/lib.rt:182:5
 follow4-requires : tie.Need-follow4-requires
 follow4-requires c κs = search needs
 
--- src/lib.rt:179:1
 returns : tie.Need-returns
 unfolding names-of row-of rows leaf group group-under bytes
 returns c = in-payment-found (48 ∷ 50 ∷ 51 ∷ 55 ∷ []) refl (c .follow4 .ensures)

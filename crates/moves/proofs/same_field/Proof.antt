@@ -3,73 +3,51 @@ use Rattle.paper.specs.Bytes.{bytes}
 use borrow.Author.Needs.{needs}
 use Rattle.moves.proofs.same_field.Statement.{statement}
 use Rattle.moves.proofs.same_field.Tie as tie
-use Rattle.moves.proofs.same_field.Reads as reads
-use Rattle.moves.proofs.same_field.Lts as lts
-use Rattle.moves.proofs.cents.Reads as cents-reads
-use Rattle.moves.proofs.same_given.Reads as same-given-reads
-use Rattle.moves.proofs.same_or.Reads as same-or-reads
-use Rattle.moves.proofs.same_remittance.Reads as same-remittance-reads
-use Rattle.order.proofs.field_at.Reads as field-at-reads
 
--- src/lib.rt:250:9
 same-remittance-requires : tie.Need-same-remittance-requires
 same-remittance-requires c κs = search needs
 
--- src/lib.rt:250:9
 returns : tie.Need-returns
 returns c = λ p q g h a b. remittance-field p q (c .before .if1 .taken) (c .same-remittance .ensures p q (g .own-next) (h .own-next) (g .own-is) (h .own-is))
 
--- src/lib.rt:252:9
 field-at-requires : tie.Need-field-at-requires
 field-at-requires c κs = search needs
 
--- src/lib.rt:253:9
 field-at-requires-2 : tie.Need-field-at-requires-2
 field-at-requires-2 c κs = search needs
 
--- src/lib.rt:255:60
 slice-aggregate-same-or : tie.Need-slice-aggregate-same-or
 slice-aggregate-same-or c = search needs
 
--- src/lib.rt:255:9
 same-or-requires : tie.Need-same-or-requires
 same-or-requires c κs = search needs
 
--- src/lib.rt:255:9
 returns-2 : tie.Need-returns-2
 unfolding bytes
 returns-2 c = λ p q g h a b. batch-field p q (c .before .before .if2 .taken) (c .same-or .ensures _ _ (c .before .before .before .before .field-at .ensures p (g .own-next) (g .block-next) (g .own-is) (g .block-is)) (c .before .before .before .field-at2 .ensures q (h .own-next) (h .block-next) (h .own-is) (h .block-is)))
 
--- src/lib.rt:258:60
 slice-aggregate-same-or-2 : tie.Need-slice-aggregate-same-or-2
 slice-aggregate-same-or-2 c = search needs
 
--- src/lib.rt:258:9
 same-or-requires-2 : tie.Need-same-or-requires-2
 same-or-requires-2 c κs = search needs
 
--- src/lib.rt:258:9
 returns-3 : tie.Need-returns-3
 unfolding bytes
 returns-3 c = λ p q g h a b. priority-field p q (c .before .before .if3 .taken) (c .same-or2 .ensures _ _ (c .before .before .before .before .before .field-at .ensures p (g .own-next) (g .block-next) (g .own-is) (g .block-is)) (c .before .before .before .before .field-at2 .ensures q (h .own-next) (h .block-next) (h .own-is) (h .block-is)))
 
--- src/lib.rt:261:16
 cents-requires : tie.Need-cents-requires
 cents-requires c κs = search needs
 
--- src/lib.rt:261:42
 cents-requires-2 : tie.Need-cents-requires-2
 cents-requires-2 c κs = search needs
 
--- src/lib.rt:261:9
 returns-4 : tie.Need-returns-4
 returns-4 c = λ p q g h a b. amount-field p q (c .before .before .if4 .taken) (c .before .cents .ensures _ (c .before .before .before .before .before .before .field-at .ensures p (g .own-next) (g .block-next) (g .own-is) (g .block-is)) (amount-element p (c .before .before .if4 .taken) (g .amount-is))) (c .cents2 .ensures _ (c .before .before .before .before .before .field-at2 .ensures q (h .own-next) (h .block-next) (h .own-is) (h .block-is)) (amount-element q (c .before .before .if4 .taken) (h .amount-is)))
 
--- src/lib.rt:263:5
 same-given-requires : tie.Need-same-given-requires
 same-given-requires c κs = search needs
 
--- src/lib.rt:236:1
 returns-5 : tie.Need-returns-5
 returns-5 c = λ p q g h a b. plain-field p q a b (c .before .before .before .before .before .before .if1 .left) (c .before .before .before .if2 .left) (c .before .before .if3 .left) (c .before .if4 .left) (c .same-given .ensures _ _ (c .before .before .before .before .before .field-at .ensures p (g .own-next) (g .block-next) (g .own-is) (g .block-is)) (c .before .before .before .before .field-at2 .ensures q (h .own-next) (h .block-next) (h .own-is) (h .block-is)))
 

@@ -4,61 +4,43 @@ use mathlib.Core.Path.{refl}
 use borrow.Author.Needs.{needs}
 use Rattle.moves.proofs.same_or.Statement.{statement}
 use Rattle.moves.proofs.same_or.Tie as tie
-use Rattle.moves.proofs.same_or.Reads as reads
-use Rattle.moves.proofs.same_or.Lts as lts
-use Rattle.moves.proofs.means.Reads as means-reads
-use Rattle.moves.proofs.text.Reads as text-reads
-use Rattle.texts.proofs.same.Reads as same-reads
 
--- src/lib.rt:123:19
 enum-known-found1 : tie.Need-enum-known-found1
 enum-known-found1 c = search needs
 
--- src/lib.rt:124:9
 enum-told : tie.Need-enum-told
 enum-told c = search needs
 
--- src/lib.rt:124:9
 means-requires : tie.Need-means-requires
 means-requires c κs = search needs
 
--- src/lib.rt:124:9
 returns : tie.Need-returns
 returns c = λ o u f g. meant-first (c .before .before .before .before .before .before .before .before .args .otherwise .now) o u (found-none f (c .before .enum-told .given .1)) (c .means .ensures u g)
 
--- src/lib.rt:126:19
 enum-known-found2 : tie.Need-enum-known-found2
 enum-known-found2 c = search needs
 
--- src/lib.rt:127:28
 enum-told-2 : tie.Need-enum-told-2
 enum-told-2 c = search needs
 
--- src/lib.rt:127:28
 text-requires : tie.Need-text-requires
 text-requires c κs = search needs
 
--- src/lib.rt:127:9
 same-requires : tie.Need-same-requires
 same-requires c κs = search needs
 
--- src/lib.rt:127:9
 returns-2 : tie.Need-returns-2
 returns-2 c = λ o u f g. let t = found-some f (c .before .before .before .before .before .found1 .given .1) in meant-second (c .before .before .before .before .before .before .before .before .before .before .before .before .args .otherwise .now) o u (t .is-it) (found-none g (c .before .before .enum-told2 .given .1)) (one-text (c .same .ensures) (c .before .text .ensures (t .it) (t .next) (t .laid)) refl)
 
--- src/lib.rt:129:17
 text-requires-2 : tie.Need-text-requires-2
 text-requires-2 c κs = search needs
 
--- src/lib.rt:129:37
 text-requires-3 : tie.Need-text-requires-3
 text-requires-3 c κs = search needs
 
--- src/lib.rt:129:5
 same-requires-2 : tie.Need-same-requires-2
 same-requires-2 c κs = search needs
 
--- src/lib.rt:112:1
 returns-3 : tie.Need-returns-3
 returns-3 c = λ o u f g. let t = found-some f (c .before .before .before .before .before .before .before .found1 .given .1) in let v = found-some g (c .before .before .before .before .found2 .given .1) in both-said (c .before .before .before .before .before .before .before .before .before .before .before .before .before .before .args .otherwise .now) o u (t .is-it) (v .is-it) (one-text (c .same2 .ensures) (c .before .before .text2 .ensures (t .it) (t .next) (t .laid)) (c .before .text3 .ensures (v .it) (v .next) (v .laid)))
 

@@ -4,51 +4,37 @@ use Rattle.moves.specs.Compared.{free-of, issuer-of, reference-of}
 use borrow.Author.Needs.{needs}
 use Rattle.moves.proofs.same_remittance.Statement.{statement}
 use Rattle.moves.proofs.same_remittance.Tie as tie
-use Rattle.moves.proofs.same_remittance.Reads as reads
-use Rattle.moves.proofs.same_remittance.Lts as lts
-use Rattle.moves.proofs.free.Reads as free-reads
-use Rattle.moves.proofs.same_given.Reads as same-given-reads
-use Rattle.moves.proofs.same_structured.Reads as same-structured-reads
 
--- src/lib.rt:220:9
 free-requires : tie.Need-free-requires
 free-requires c κs = search needs
 
--- src/lib.rt:221:9
 free-requires-2 : tie.Need-free-requires-2
 free-requires-2 c κs = search needs
 
--- src/lib.rt:223:9
 enum-told : tie.Need-enum-told
 enum-told c = search needs
 
--- src/lib.rt:223:9
 same-given-requires : tie.Need-same-given-requires
 same-given-requires c κs = search needs
 
--- src/lib.rt:223:9
 returns : tie.Need-returns
 returns c = λ p q m n l k. free-first (issuer-of p) (issuer-of q) (reference-of p) (reference-of q) (free-of p) (free-of q) (found-some (c .before .before .before .before .free .ensures p m l) (c .before .enum-told .given .1) .is-it) (c .same-given .ensures _ _ (c .before .before .before .before .free .ensures p m l) (c .before .before .before .free2 .ensures q n k))
 
 enum-told-2 : tie.Need-enum-told-2
 enum-told-2 c = search needs
 
--- src/lib.rt:226:9
 enum-told-3 : tie.Need-enum-told-3
 enum-told-3 c = search needs
 
--- src/lib.rt:226:9
 returns-2 : tie.Need-returns-2
 returns-2 c = λ p q m n l k. free-second (issuer-of p) (issuer-of q) (reference-of p) (reference-of q) (free-of p) (free-of q) (found-none (c .before .before .before .before .before .free .ensures p m l) (c .before .before .enum-told2 .given .1)) (found-some (c .before .before .before .before .free2 .ensures q n k) (c .enum-told3 .given .1) .is-it)
 
 enum-told-4 : tie.Need-enum-told-4
 enum-told-4 c = search needs
 
--- src/lib.rt:228:5
 same-structured-requires : tie.Need-same-structured-requires
 same-structured-requires c κs = search needs
 
--- src/lib.rt:210:1
 returns-3 : tie.Need-returns-3
 returns-3 c = λ p q m n l k. not-free (issuer-of p) (issuer-of q) (reference-of p) (reference-of q) (free-of p) (free-of q) (found-none (c .before .before .before .before .before .before .free .ensures p m l) (c .before .before .before .enum-told2 .given .1)) (found-none (c .before .before .before .before .before .free2 .ensures q n k) (c .before .enum-told4 .given .1)) (c .same-structured .ensures p q m n l k)
 

@@ -5,52 +5,37 @@ use Rattle.moves.specs.Compared.{issuer-of, reference-of}
 use borrow.Author.Needs.{needs}
 use Rattle.moves.proofs.same_structured.Statement.{statement}
 use Rattle.moves.proofs.same_structured.Tie as tie
-use Rattle.moves.proofs.same_structured.Reads as reads
-use Rattle.moves.proofs.same_structured.Lts as lts
-use Rattle.moves.proofs.issuer.Reads as issuer-reads
-use Rattle.moves.proofs.reference.Reads as reference-reads
-use Rattle.moves.proofs.same_given.Reads as same-given-reads
 
--- src/lib.rt:196:9
 reference-requires : tie.Need-reference-requires
 reference-requires c κs = search needs
 
--- src/lib.rt:197:9
 reference-requires-2 : tie.Need-reference-requires-2
 reference-requires-2 c κs = search needs
 
--- src/lib.rt:198:9
 same-given-requires : tie.Need-same-given-requires
 same-given-requires c κs = search needs
 
--- src/lib.rt:199:9
 returns : tie.Need-returns
 returns c = λ p q m n l k. references-differ (issuer-of p) (issuer-of q) (reference-of p) (reference-of q) (c .before .same-given .ensures _ _ (c .before .before .before .reference .ensures p m l) (c .before .before .reference2 .ensures q n k)) (not-true _ (c .if1 .taken))
 
 enum-told : tie.Need-enum-told
 enum-told c = search needs
 
--- src/lib.rt:202:9
 enum-told-2 : tie.Need-enum-told-2
 enum-told-2 c = search needs
 
--- src/lib.rt:202:9
 returns-2 : tie.Need-returns-2
 returns-2 c = λ p q m n l k. no-reference (issuer-of p) (issuer-of q) (reference-of p) (reference-of q) (c .before .before .before .same-given .ensures _ _ (c .before .before .before .before .before .reference .ensures p m l) (c .before .before .before .before .reference2 .ensures q n k)) (not-false _ (c .before .before .if1 .left)) (found-none (c .before .before .before .before .before .reference .ensures p m l) (c .enum-told2 .given .1))
 
--- src/lib.rt:204:9
 issuer-requires : tie.Need-issuer-requires
 issuer-requires c κs = search needs
 
--- src/lib.rt:205:9
 issuer-requires-2 : tie.Need-issuer-requires-2
 issuer-requires-2 c κs = search needs
 
--- src/lib.rt:206:5
 same-given-requires-2 : tie.Need-same-given-requires-2
 same-given-requires-2 c κs = search needs
 
--- src/lib.rt:186:1
 returns-3 : tie.Need-returns-3
 returns-3 c = λ p q m n l k. references-agree (issuer-of p) (issuer-of q) (reference-of p) (reference-of q) (c .before .before .before .before .before .before .same-given .ensures _ _ (c .before .before .before .before .before .before .before .before .reference .ensures p m l) (c .before .before .before .before .before .before .before .reference2 .ensures q n k)) (not-false _ (c .before .before .before .before .before .if1 .left)) (found-some (c .before .before .before .before .before .before .before .before .reference .ensures p m l) (c .before .before .before .enum-told .given .1) .is-it) (c .same-given2 .ensures _ _ (c .before .before .issuer .ensures p m l) (c .before .issuer2 .ensures q n k))
 

@@ -2,99 +2,73 @@ use Rattle.moves.proofs.Compared.{too-far, no-text, turned, outside, it
 use borrow.Author.Needs.{needs}
 use Rattle.moves.proofs.text.Statement.{statement}
 use Rattle.moves.proofs.text.Tie as tie
-use Rattle.moves.proofs.text.Reads as reads
-use Rattle.moves.proofs.text.Lts as lts
-use Rattle.tree.proofs.cell.Reads as cell-reads
 
--- src/lib.rt:85:16
 sub-result : tie.Need-sub-result
 sub-result c = search needs
 
--- src/lib.rt:85:16
 part-result-start : tie.Need-part-result-start
 part-result-start c = search needs
 
--- src/lib.rt:85:16
 part-result-end : tie.Need-part-result-end
 part-result-end c = search needs
 
--- src/lib.rt:85:9
 returns : tie.Need-returns
 returns c = λ t next l. too-far l (c .before .if1 .taken)
 
--- src/lib.rt:87:8
 cell-requires : tie.Need-cell-requires
 cell-requires c κs = search needs
 
--- src/lib.rt:87:34
 add-if2 : tie.Need-add-if2
 add-if2 c = search needs
 
--- src/lib.rt:88:16
 sub-result-2 : tie.Need-sub-result-2
 sub-result-2 c = search needs
 
--- src/lib.rt:88:16
 part-result-start-2 : tie.Need-part-result-start-2
 part-result-start-2 c = search needs
 
--- src/lib.rt:88:16
 part-result-end-2 : tie.Need-part-result-end-2
 part-result-end-2 c = search needs
 
--- src/lib.rt:88:9
 returns-2 : tie.Need-returns-2
 returns-2 c = λ t next l. no-text l (c .before .before .cell .ensures) (c .before .if2 .taken)
 
--- src/lib.rt:90:9
 cell-requires-2 : tie.Need-cell-requires-2
 cell-requires-2 c κs = search needs
 
--- src/lib.rt:91:9
 cell-requires-3 : tie.Need-cell-requires-3
 cell-requires-3 c κs = search needs
 
--- src/lib.rt:93:16
 sub-result-3 : tie.Need-sub-result-3
 sub-result-3 c = search needs
 
--- src/lib.rt:93:16
 part-result-start-3 : tie.Need-part-result-start-3
 part-result-start-3 c = search needs
 
--- src/lib.rt:93:16
 part-result-end-3 : tie.Need-part-result-end-3
 part-result-end-3 c = search needs
 
--- src/lib.rt:93:9
 returns-3 : tie.Need-returns-3
 returns-3 c = λ t next l. turned l (c .before .before .before .cell2 .ensures) (c .before .before .cell3 .ensures) (c .before .if3 .taken)
 
--- src/lib.rt:96:16
 sub-result-4 : tie.Need-sub-result-4
 sub-result-4 c = search needs
 
--- src/lib.rt:96:16
 part-result-start-4 : tie.Need-part-result-start-4
 part-result-start-4 c = search needs
 
--- src/lib.rt:96:16
 part-result-end-4 : tie.Need-part-result-end-4
 part-result-end-4 c = search needs
 
--- src/lib.rt:96:9
 returns-4 : tie.Need-returns-4
 returns-4 c = λ t next l. outside l (c .before .before .before .cell3 .ensures) (c .before .if4 .taken)
 
--- src/lib.rt:98:5
 part-result-start-5 : tie.Need-part-result-start-5
 part-result-start-5 c = search needs
 
--- src/lib.rt:98:5
 part-result-end-5 : tie.Need-part-result-end-5
 part-result-end-5 c = search needs
 
--- src/lib.rt:81:1
 returns-5 : tie.Need-returns-5
 returns-5 c = λ t next l. its-text l (c .before .before .before .before .before .before .cell .ensures) (c .before .before .before .before .before .if2 .left) (c .before .before .before .before .cell2 .ensures) (c .before .before .before .cell3 .ensures)
 
