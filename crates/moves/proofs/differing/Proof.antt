@@ -27,7 +27,7 @@ same-field-requires c κs = search needs
 
 returns : tie.Need-returns Inv-loop μ-loop
 unfolding lowest
-returns c = λ p q g h. field-differs p q _ (c .before .before .before .loop .inv .0) (c .before .before .loop-test .taken) (c .before .same-field .ensures p q g h (omega arith) (omega arith)) (not-true _ (c .if1 .taken)) ∙ sym (c .before .before .before .loop .inv .2 p q g h)
+returns c = λ p q g h. field-differs p q _ (c .before .before .before .loop .inv .0) (omega arith) (c .before .same-field .ensures p q g h (omega arith) (omega arith)) (not-true _ (c .if1 .taken)) ∙ sym (c .before .before .before .loop .inv .2 p q g h)
 
 add-field : tie.Need-add-field Inv-loop μ-loop
 add-field c = search needs
@@ -36,7 +36,7 @@ loop-less : tie.Need-loop-less Inv-loop μ-loop
 loop-less c = search needs
 
 loop-again : tie.Need-loop-again Inv-loop μ-loop
-loop-again c = (search needs, search needs, λ p q g h. c .before .before .before .loop .inv .2 p q g h ∙ field-agrees p q _ (c .before .before .before .loop .inv .0) (c .before .before .loop-test .taken) (c .before .same-field .ensures p q g h (omega arith) (omega arith)) (not-false _ (c .if1 .left)))
+loop-again c = (search needs, search needs, λ p q g h. c .before .before .before .loop .inv .2 p q g h ∙ field-agrees p q _ (c .before .before .before .loop .inv .0) (omega arith) (c .before .same-field .ensures p q g h (omega arith) (omega arith)) (not-false _ (c .if1 .left)))
 
 returns-2 : tie.Need-returns-2 Inv-loop μ-loop
 unfolding lowest

@@ -29,7 +29,7 @@ ordinal-requires c κs = search needs
 
 returns : tie.Need-returns Inv-loop μ-loop
 unfolding answer-of
-returns c = λ root1 root2 ks a b f l. answers-18 ks a b l (c .before .before .before .loop .inv .2 root1 root2 ks a b f l) (c .before .before .loop-test .taken) (c .before .ordinal .ensures ks f) (c .if1 .taken)
+returns c = λ root1 root2 ks a b f l. answers-18 ks a b l (c .before .before .before .loop .inv .2 root1 root2 ks a b f l) (omega arith) (c .before .ordinal .ensures ks f) (omega arith)
 
 returns-2 : tie.Need-returns-2 Inv-loop μ-loop
 unfolding answer-of
@@ -40,7 +40,7 @@ array-read-if3 c = search needs
 
 returns-3 : tie.Need-returns-3 Inv-loop μ-loop
 unfolding answer-of
-returns-3 c = λ root1 root2 ks a b f l. answers-19 ks a b l (c .before .before .before .before .before .loop .inv .2 root1 root2 ks a b f l) (c .before .before .before .before .loop-test .taken) (c .before .before .before .ordinal .ensures ks f) (c .before .before .if1 .left) (c .if3 .taken)
+returns-3 c = λ root1 root2 ks a b f l. answers-19 ks a b l (c .before .before .before .before .before .loop .inv .2 root1 root2 ks a b f l) (omega arith) (c .before .before .before .ordinal .ensures ks f) (omega arith) (c .if3 .taken)
 
 array-write-marks : tie.Need-array-write-marks Inv-loop μ-loop
 array-write-marks c = search needs
@@ -53,7 +53,7 @@ enum-known-compared c = search needs
 
 returns-4 : tie.Need-returns-4 Inv-loop μ-loop
 unfolding answer-of
-returns-4 c = λ root1 root2 ks a b f l. answers-20 ks a b l (c .before .before .before .before .before .before .before .before .before .loop .inv .2 root1 root2 ks a b f l) (c .before .before .before .before .before .before .before .before .loop-test .taken) (c .before .before .before .before .before .before .before .ordinal .ensures ks f) (c .before .before .before .before .before .before .if1 .left) _ (c .before .before .before .differing-pair .ensures) (c .before .before .before .before .if3 .left) (c .before .compared .given .1)
+returns-4 c = λ root1 root2 ks a b f l. answers-20 ks a b l (c .before .before .before .before .before .before .before .before .before .loop .inv .2 root1 root2 ks a b f l) (omega arith) (c .before .before .before .before .before .before .before .ordinal .ensures ks f) (omega arith) _ (c .before .before .before .differing-pair .ensures) (c .before .before .before .before .if3 .left) (c .before .compared .given .1)
 
 enum-told : tie.Need-enum-told Inv-loop μ-loop
 enum-told c = search needs
@@ -65,11 +65,11 @@ loop-less : tie.Need-loop-less Inv-loop μ-loop
 loop-less c = search needs
 
 loop-again : tie.Need-loop-again Inv-loop μ-loop
-loop-again c = (search needs, search needs, λ root1 root2 ks a b f l. goes-on ks a b l (c .before .before .before .before .before .before .before .before .loop .inv .2 root1 root2 ks a b f l) (c .before .before .before .before .before .before .before .loop-test .taken) (c .before .before .before .before .before .before .ordinal .ensures ks f) (c .before .before .before .before .before .if1 .left) _ (c .before .before .differing-pair .ensures) (c .before .before .before .if3 .left) (c .enum-told .given .1) (c .before .before .before .before .before .before .before .before .loop .inv .1))
+loop-again c = (search needs, search needs, λ root1 root2 ks a b f l. goes-on ks a b l (c .before .before .before .before .before .before .before .before .loop .inv .2 root1 root2 ks a b f l) (omega arith) (c .before .before .before .before .before .before .ordinal .ensures ks f) (omega arith) _ (c .before .before .differing-pair .ensures) (c .before .before .before .if3 .left) (c .enum-told .given .1) (c .before .before .before .before .before .before .before .before .loop .inv .1))
 
 returns-5 : tie.Need-returns-5 Inv-loop μ-loop
 unfolding answer-of
-returns-5 c = λ root1 root2 ks a b f l. at-end ks a b l (c .before .loop .inv .2 root1 root2 ks a b f l) (c .loop-test .left)
+returns-5 c = λ root1 root2 ks a b f l. at-end ks a b l (c .before .loop .inv .2 root1 root2 ks a b f l) (omega arith)
 
 pub pairing-spec : {M : Type 1} → statement M
 pairing-spec =
