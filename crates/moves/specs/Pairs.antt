@@ -1,0 +1,28 @@
+-- What is said of the payments that a list pairs.
+use Prim.Native.Nat.{ℕ, _≤_}
+use mathlib.Core.List.{List}
+use mathlib.Core.Path.{_≡_}
+use lib.ListN.{length}
+use Rattle.paper.specs.Form.{Element}
+use Rattle.paper.specs.Rows.{rows}
+use Rattle.paper.specs.Payments.{payments}
+use Rattle.paper.specs.Accepted.{All}
+use Rattle.paper.specs.Regrouping.{Answer, answered}
+use Rattle.order.specs.Ordered.{PaymentsAt}
+use Rattle.moves.specs.Compared.{IsMoney, amount-in}
+use Rattle.moves.specs.declared.Paired.{Paired}
+use Rattle.moves.specs.declared.Paired.the-variants.{Accepted, OrdinalTooLarge, NamedBefore, FieldsDiffer}
+
+-- So many payments stand in this order, no more than a message may have, and their amounts are money.
+pub record InOrder (s tree order : List ℕ) (n : ℕ) (root : Element) : Type 0 where
+  pub number-is : length (payments rows root) ≡ n
+  pub few : n ≤ 64
+  pub stand : PaymentsAt s tree order 0 (payments rows root)
+  pub amounts : All (λ p. IsMoney (amount-in p)) (payments rows root)
+
+-- the paper's numbers
+unfoldable pub answer-of : Paired → Answer
+answer-of Accepted = answered 0 0 0
+answer-of (OrdinalTooLarge k) = answered 18 k 0
+answer-of (NamedBefore k) = answered 19 k 0
+answer-of (FieldsDiffer k field) = answered 20 k field
