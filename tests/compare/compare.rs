@@ -1,0 +1,315 @@
+//! Compares the library with the independent implementation over generated messages and pairs, through the two exported functions.
+//!
+//!     compare SEED MESSAGES PAIRS FOLDER COMMAND..
+//!
+//! COMMAND runs the driver (driver.c), which calls the library. What is lent to it lies among guard bytes in one run of bytes; the driver hands back the
+//! answer and the whole run. Both must be what the independent implementation says: the answer, every byte of the table, and every other byte as it was.
+//! The inputs of the first differences are written to FOLDER. It fails on any difference, and if a refusal that can be reached never was.
+
+use independent::generate::{self, random::Random};
+use independent::{regroup, verdict, Regroup, Verdict};
+use std::collections::{BTreeMap, BTreeSet};
+use std::io::{self, Read, Write};
+use std::path::Path;
+use std::process::{ChildStdin, ChildStdout, Command, ExitCode, Stdio};
+use std::sync::mpsc::{sync_channel, SyncSender};
+use std::time::Instant;
+
+const GUARD: usize = 256;
+const DIFFERENCES_SHOWN: usize = 10;
+const NULL: u32 = u32::MAX;
+
+/// Refusals of a message that can be reached: the amounts of 64 payments never come to 64 bits, so 21 can't.
+const OF_MESSAGES: std::ops::RangeInclusive<u64> = 1..=14;
+const OF_PAIRS: std::ops::RangeInclusive<u64> = 15..=20;
+const FIELDS: std::ops::RangeInclusive<u64> = 1..=17;
+
+#[derive(Clone, Copy, PartialEq)]
+enum Kind {
+    Verdict = 1,
+    Regroup = 2,
+}
+
+/// One call: what is lent, and what must come back.
+struct Call {
+    kind: Kind,
+    index: u64,
+    lent: Vec<u8>,
+    /// Place and length of each part in what is lent.
+    parts: [(u32, u32); 3],
+    answer: [u64; 6],
+    after: Vec<u8>,
+}
+
+fn main() -> ExitCode {
+    let arguments: Vec<String> = std::env::args().skip(1).collect();
+    let numbers: Vec<u64> = arguments.iter().take(3).map_while(|a| a.parse().ok()).collect();
+    let ([seed, messages, pairs], [folder, command @ ..]) = (&numbers[..], arguments.get(3..).unwrap_or_default()) else {
+        eprintln!("compare SEED MESSAGES PAIRS FOLDER COMMAND..");
+        return ExitCode::from(2);
+    };
+    if command.is_empty() {
+        eprintln!("no command that runs the driver");
+        return ExitCode::from(2);
+    }
+    match compare(*seed, *messages, *pairs, Path::new(folder), command) {
+        Ok(true) => ExitCode::SUCCESS,
+        Ok(false) => ExitCode::FAILURE,
+        Err(error) => {
+            println!("the comparison broke off: {error}");
+            ExitCode::FAILURE
+        }
+    }
+}
+
+/// Whether all answers agree and every refusal was reached.
+fn compare(seed: u64, messages: u64, pairs: u64, folder: &Path, command: &[String]) -> io::Result<bool> {
+    let start = Instant::now();
+    let mut driver = Command::new(&command[0]).args(&command[1..]).stdin(Stdio::piped()).stdout(Stdio::piped()).spawn()?;
+    let (to, mut from) = (driver.stdin.take().unwrap(), driver.stdout.take().unwrap());
+    let (sender, calls) = sync_channel(16);
+    // It ends when all is sent, or when the driver or this side has broken off.
+    let asking = std::thread::spawn(move || ask(seed, messages, pairs, to, sender));
+    let mut seen = Seen::default();
+    for call in calls {
+        let (answer, after) = answer_to(&call, &mut from).map_err(|error| {
+            io::Error::new(error.kind(), format!("no answer to {}: {error}", name(&call)))
+        })?;
+        seen.add(&call);
+        if answer != call.answer || after != call.after {
+            seen.differences += 1;
+            report(&call, &answer, &after, folder)?;
+        }
+        if seen.differences == DIFFERENCES_SHOWN {
+            println!("{DIFFERENCES_SHOWN} differences: the rest is not looked at");
+            driver.kill()?;
+            return Ok(false);
+        }
+    }
+    asking.join().expect("the asking thread")?;
+    let ended = driver.wait()?;
+    println!("seed {seed}: {messages} messages and {pairs} pairs in {:.1} s", start.elapsed().as_secs_f64());
+    let reached = seen.print();
+    println!("{} differences", seen.differences);
+    if !ended.success() {
+        println!("the driver ended with {ended}");
+    }
+    Ok(ended.success() && reached && seen.differences == 0)
+}
+
+/// Sends every call to the driver, and first to the side that compares.
+fn ask(seed: u64, messages: u64, pairs: u64, mut to: ChildStdin, compared: SyncSender<Call>) -> io::Result<()> {
+    let verdicts = (0..messages).map(|index| verdict_call(seed, index));
+    let regroups = (0..pairs).map(|index| regroup_call(seed, index));
+    for call in verdicts.chain(regroups) {
+        let mut frame = Vec::with_capacity(32 + call.lent.len());
+        let parts = call.parts.iter().flat_map(|(place, length)| [*place, *length]);
+        for number in [call.kind as u32, call.lent.len() as u32].into_iter().chain(parts) {
+            frame.extend(number.to_le_bytes());
+        }
+        frame.extend(&call.lent);
+        if compared.send(call).is_err() {
+            return Ok(());
+        }
+        to.write_all(&frame)?;
+    }
+    Ok(())
+}
+
+fn answer_to(call: &Call, from: &mut ChildStdout) -> io::Result<([u64; 6], Vec<u8>)> {
+    let mut bytes = [0; 48];
+    from.read_exact(&mut bytes)?;
+    let mut answer = [0; 6];
+    for (number, bytes) in answer.iter_mut().zip(bytes.chunks_exact(8)) {
+        *number = u64::from_le_bytes(bytes.try_into().unwrap());
+    }
+    let mut after = vec![0; call.lent.len()];
+    from.read_exact(&mut after)?;
+    Ok((answer, after))
+}
+
+fn verdict_call(seed: u64, index: u64) -> Call {
+    let random = &mut Random::new(seed ^ 0x7AB1E, index);
+    let case = generate::case(seed, index);
+    let message = if random.below(1000) == 0 { Vec::new() } else { case.message };
+    let table = noise(table_bytes(case.table, random), random);
+    let (lent, parts) = lay([&message, &table, &[]], random);
+    let (answer, table) = independent_verdict(&message, table);
+    let mut after = lent.clone();
+    if parts[1].0 != NULL {
+        after[range(parts[1])].copy_from_slice(&table);
+    }
+    Call { kind: Kind::Verdict, index, lent, parts, answer, after }
+}
+
+/// Lengths around the least, odd ones, very short and long ones.
+fn table_bytes(numbers: usize, random: &mut Random) -> usize {
+    match random.below(40) {
+        0 => random.below(4096),
+        1 => random.between(4088, 4104),
+        2 => random.between(4097, 9000),
+        3 => *random.pick(&[0, 1, 3, 4, 4092, 4095, 4096, 4097, 4099, 4100, 65_536, 65_539]),
+        4..=20 => 4 * numbers + random.below(4),
+        _ => 4 * numbers,
+    }
+}
+
+fn regroup_call(seed: u64, index: u64) -> Call {
+    let random = &mut Random::new(seed ^ 0x115, index);
+    let pair = generate::pair(seed, index);
+    let (lent, parts) = lay([&pair.first, &pair.second, &pair.list], random);
+    let answer = independent_regroup(&pair.first, &pair.second, &pair.list);
+    Call { kind: Kind::Regroup, index, after: lent.clone(), lent, parts, answer }
+}
+
+/// The parts with guard bytes around each, at any alignment. An empty part is now and then a null pointer.
+fn lay(parts: [&[u8]; 3], random: &mut Random) -> (Vec<u8>, [(u32, u32); 3]) {
+    let mut lent = Vec::new();
+    let mut places = [(NULL, 0); 3];
+    for (part, place) in parts.into_iter().zip(&mut places) {
+        lent.extend(noise(GUARD + random.below(16), random));
+        if !part.is_empty() || random.percent(50) {
+            *place = (lent.len() as u32, part.len() as u32);
+        }
+        lent.extend(part);
+    }
+    lent.extend(noise(GUARD, random));
+    (lent, places)
+}
+
+fn noise(length: usize, random: &mut Random) -> Vec<u8> {
+    let words = (0..length / 8 + 1).flat_map(|_| random.draw().to_le_bytes());
+    words.take(length).collect()
+}
+
+fn range((place, length): (u32, u32)) -> std::ops::Range<usize> {
+    place as usize..(place + length) as usize
+}
+
+/// The independent implementation behind the exported function's interface: a table of bytes, high byte first.
+fn independent_verdict(message: &[u8], mut table: Vec<u8>) -> ([u64; 6], Vec<u8>) {
+    let mut numbers: Vec<u32> = table.chunks_exact(4).map(|bytes| u32::from_be_bytes(bytes.try_into().unwrap())).collect();
+    let answer = match verdict(message, &mut numbers) {
+        Verdict::Accepted { blocks, payments, cents } => [0, 0, 0, blocks.into(), payments.into(), cents],
+        Verdict::Refused { number, element, offset } => [number.into(), element.into(), offset as u64, 0, 0, 0],
+    };
+    for (bytes, number) in table.chunks_exact_mut(4).zip(numbers) {
+        bytes.copy_from_slice(&number.to_be_bytes());
+    }
+    (answer, table)
+}
+
+fn independent_regroup(first: &[u8], second: &[u8], list: &[u8]) -> [u64; 6] {
+    match regroup(first, second, list) {
+        Regroup::Accepted => [0; 6],
+        Regroup::Message { whose, refusal } => {
+            [whose.into(), refusal.number.into(), refusal.element.into(), refusal.offset as u64, 0, 0]
+        }
+        Regroup::Refused { number, k, field } => [0, number.into(), 0, 0, k.into(), field.into()],
+    }
+}
+
+fn name(call: &Call) -> String {
+    let kind = if call.kind == Kind::Verdict { "verdict" } else { "regrouping" };
+    format!("{kind} {}", call.index)
+}
+
+fn report(call: &Call, answer: &[u64; 6], after: &[u8], folder: &Path) -> io::Result<()> {
+    let (fields, files) = match call.kind {
+        Kind::Verdict => ("number element offset blocks payments cents", ["message", "table", ""]),
+        Kind::Regroup => ("whose number element offset k field", ["first", "second", "list"]),
+    };
+    println!("DIFFERENT: {} ({fields})", name(call));
+    println!("  independent {:?}", call.answer);
+    println!("  library     {answer:?}");
+    let differing: Vec<usize> = (0..after.len()).filter(|at| after[*at] != call.after[*at]).collect();
+    if let Some(first) = differing.first() {
+        let part = call.parts.iter().position(|part| part.0 != NULL && range(*part).contains(first));
+        let place = part.map_or("outside all parts".to_string(), |part| {
+            format!("byte {} of the {}", first - call.parts[part].0 as usize, files[part])
+        });
+        println!("  {} bytes differ, the first {place}: {} for {}", differing.len(), after[*first], call.after[*first]);
+    }
+    for (part, file) in call.parts.iter().zip(files).filter(|(part, _)| part.0 != NULL && part.1 > 0) {
+        let path = folder.join(format!("{}-{file}", name(call).replace(' ', "-")));
+        std::fs::write(&path, &call.lent[range(*part)])?;
+        println!("  {} bytes in {}", part.1, path.display());
+    }
+    Ok(())
+}
+
+/// How often each number was the answer, and on which elements or fields.
+#[derive(Default)]
+struct Reached(BTreeMap<u64, (u64, BTreeSet<u64>)>);
+
+impl Reached {
+    fn add(&mut self, number: u64, what: u64) {
+        let (times, whats) = self.0.entry(number).or_default();
+        *times += 1;
+        whats.insert(what);
+    }
+
+    fn print(&self, title: &str, what: &str) {
+        println!("{title}");
+        for (number, (times, whats)) in &self.0 {
+            let number = if *number == 0 { "accepted".to_string() } else { number.to_string() };
+            let whats: Vec<String> = whats.iter().filter(|what| **what > 0).map(u64::to_string).collect();
+            let whats = if whats.is_empty() { String::new() } else { format!("  {what} {}", whats.join(" ")) };
+            println!("{number:>10} {times:>7}{whats}");
+        }
+    }
+
+    /// Says which of these numbers is missing; whether none is.
+    fn all(&self, numbers: impl Iterator<Item = u64>, of: &str) -> bool {
+        let missing: Vec<u64> = numbers.filter(|number| !self.0.contains_key(number)).collect();
+        if !missing.is_empty() {
+            println!("NEVER REACHED: {of} {missing:?}");
+        }
+        missing.is_empty()
+    }
+}
+
+#[derive(Default)]
+struct Seen {
+    differences: usize,
+    messages: Reached,
+    firsts: Reached,
+    seconds: Reached,
+    pairs: Reached,
+    fields: Reached,
+}
+
+impl Seen {
+    fn add(&mut self, call: &Call) {
+        let answer = &call.answer;
+        match (call.kind, answer[0]) {
+            (Kind::Verdict, number) => self.messages.add(number, answer[1]),
+            (Kind::Regroup, 0) => {
+                self.pairs.add(answer[1], answer[5]);
+                if answer[1] == 20 {
+                    self.fields.add(answer[5], 0);
+                }
+            }
+            (Kind::Regroup, 1) => self.firsts.add(answer[1], answer[2]),
+            (Kind::Regroup, _) => self.seconds.add(answer[1], answer[2]),
+        }
+    }
+
+    /// Whether all that can be reached was.
+    fn print(&self) -> bool {
+        self.messages.print("verdicts", "elements");
+        self.pairs.print("regroupings", "fields");
+        self.firsts.print("regroupings, the first message refused", "elements");
+        self.seconds.print("regroupings, the second message refused", "elements");
+        let none = std::iter::once(0);
+        [
+            self.messages.all(none.clone().chain(OF_MESSAGES), "verdict"),
+            self.pairs.all(none.chain(OF_PAIRS), "regrouping"),
+            self.firsts.all(std::iter::once(2), "the first message's refusal"),
+            self.seconds.all(std::iter::once(2), "the second message's refusal"),
+            self.fields.all(FIELDS, "differing field"),
+        ]
+        .into_iter()
+        .all(|reached| reached)
+    }
+}

@@ -1,0 +1,11 @@
+/* What the C code here uses of <stdlib.h>. */
+#ifndef STDLIB_H
+#define STDLIB_H
+
+#include <stddef.h>
+
+void *malloc(size_t size);
+void *realloc(void *old, size_t size);
+void free(void *old);
+
+#endif

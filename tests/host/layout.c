@@ -1,0 +1,85 @@
+/*
+ * Holds the structs of include/glowenzo.h to their layout, and the library to them: each member has the value that only it can have in a known answer.
+ *
+ *     layout M1 M3 LIST          messages of document 01, and the list 0, 1
+ */
+#include <glowenzo.h>
+#include <stddef.h>
+#include <stdio.h>
+
+#define AT(type, member, place) _Static_assert(offsetof(type, member) == (place), #type "." #member)
+#define WIDE(type, member) _Static_assert(sizeof(((type *)0)->member) == 8, #type "." #member)
+
+_Static_assert(sizeof(glowenzo_verdict_t) == 48 && _Alignof(glowenzo_verdict_t) == 8, "glowenzo_verdict_t");
+AT(glowenzo_verdict_t, number, 0);
+AT(glowenzo_verdict_t, element, 8);
+AT(glowenzo_verdict_t, offset, 16);
+AT(glowenzo_verdict_t, blocks, 24);
+AT(glowenzo_verdict_t, payments, 32);
+AT(glowenzo_verdict_t, cents, 40);
+WIDE(glowenzo_verdict_t, cents);
+
+_Static_assert(sizeof(glowenzo_regroup_t) == 48 && _Alignof(glowenzo_regroup_t) == 8, "glowenzo_regroup_t");
+AT(glowenzo_regroup_t, whose, 0);
+AT(glowenzo_regroup_t, number, 8);
+AT(glowenzo_regroup_t, element, 16);
+AT(glowenzo_regroup_t, offset, 24);
+AT(glowenzo_regroup_t, k, 32);
+AT(glowenzo_regroup_t, field, 40);
+WIDE(glowenzo_regroup_t, field);
+
+_Static_assert(GLOWENZO_TABLE_BYTES == 4 * GLOWENZO_NUMBERS_PER_PAYMENT * 64, "the least table holds 64 payments");
+
+static const char empty_root[] = "<Document xmlns=\"urn:iso:std:iso:20022:tech:xsd:pain.001.001.09\"></Document>";
+static uint8_t m1[4096], m3[4096], list[64], table[GLOWENZO_TABLE_BYTES];
+static int failed;
+
+static uint64_t contents(const char *path, uint8_t *to, uint64_t room)
+{
+    FILE *from = fopen(path, "rb");
+    if (from == NULL)
+        return 0;
+    uint64_t length = fread(to, 1, room, from);
+    fclose(from);
+    return length;
+}
+
+static void expect(const char *what, int holds)
+{
+    if (!holds) {
+        printf("%s is not as the header says\n", what);
+        failed = 1;
+    }
+}
+
+static int is_verdict(glowenzo_verdict_t v, uint64_t number, uint64_t element, uint64_t offset, uint64_t blocks, uint64_t payments, uint64_t cents)
+{
+    return v.number == number && v.element == element && v.offset == offset && v.blocks == blocks && v.payments == payments && v.cents == cents;
+}
+
+static int is_regroup(glowenzo_regroup_t r, uint64_t whose, uint64_t number, uint64_t element, uint64_t offset, uint64_t k, uint64_t field)
+{
+    return r.whose == whose && r.number == number && r.element == element && r.offset == offset && r.k == k && r.field == field;
+}
+
+int main(int argc, char **argv)
+{
+    if (argc != 4)
+        return 2;
+    const uint8_t *root = (const uint8_t *)empty_root;
+    uint64_t root_len = sizeof empty_root - 1;
+    uint64_t m1_len = contents(argv[1], m1, sizeof m1), m3_len = contents(argv[2], m3, sizeof m3), list_len = contents(argv[3], list, sizeof list);
+    expect("a refused message", is_verdict(glowenzo_verdict(root, root_len, table, sizeof table), 4, 2, 65, 0, 0, 0));
+    expect("a table that is too short", is_verdict(glowenzo_verdict(m1, m1_len, table, sizeof table - 1), 14, 0, 0, 0, 0, 0));
+    expect("an unwritten table", glowenzo_number(table, 1) == 0);
+    expect("an accepted message", is_verdict(glowenzo_verdict(m1, m1_len, table, sizeof table), 0, 0, 0, 1, 2, 3510));
+    expect("a written table", glowenzo_number(table, GLOWENZO_EUROS) == 12 && glowenzo_number(table, GLOWENZO_CENTS) == 50);
+    expect("a null message", is_verdict(glowenzo_verdict(NULL, 0, table, sizeof table), 2, 0, 0, 0, 0, 0));
+    expect("a null table", is_verdict(glowenzo_verdict(m1, m1_len, NULL, 0), 14, 0, 0, 0, 0, 0));
+    expect("a field that differs", is_regroup(glowenzo_regroup(m1, m1_len, m3, m3_len, list, list_len), 0, 20, 0, 0, 1, 8));
+    expect("a refused second message", is_regroup(glowenzo_regroup(m1, m1_len, root, root_len, list, list_len), 2, 4, 2, 65, 0, 0));
+    expect("a null list", is_regroup(glowenzo_regroup(m1, m1_len, m1, m1_len, NULL, 0), 0, 16, 0, 0, 0, 0));
+    expect("a null first message", is_regroup(glowenzo_regroup(NULL, 0, m1, m1_len, list, list_len), 1, 2, 0, 0, 0, 0));
+    expect("a message that regroups itself", is_regroup(glowenzo_regroup(m1, m1_len, m1, m1_len, list, list_len), 0, 0, 0, 0, 0, 0));
+    return failed;
+}

@@ -1,0 +1,180 @@
+//! The command line: verdict, form, regroup, and the generator's cases.
+
+use independent::generate;
+use independent::{form, regroup, verdict, Refusal, Regroup, Verdict};
+use std::collections::{BTreeMap, BTreeSet};
+use std::ffi::OsString;
+use std::fs;
+use std::io::{self, BufWriter, Read, Write};
+use std::process::ExitCode;
+
+const USAGE: &str = "\
+independent verdict [FILE..]
+independent form [FILE..]
+independent regroup FIRST SECOND LIST
+independent cases SEED N     N messages, each after its length (u32, low byte first)
+independent pairs SEED N     N times first, second and list, framed in the same way
+independent count SEED N     how often each refusal is reached in N messages and N pairs";
+
+fn main() -> ExitCode {
+    let arguments: Vec<OsString> = std::env::args_os().skip(1).collect();
+    let mut out = BufWriter::new(io::stdout().lock());
+    match run(&arguments, &mut out).and_then(|known| out.flush().map(|()| known)) {
+        Ok(true) => ExitCode::SUCCESS,
+        Ok(false) => {
+            let _ = writeln!(io::stderr(), "{USAGE}");
+            ExitCode::from(2)
+        }
+        Err(_) => ExitCode::FAILURE,
+    }
+}
+
+/// Whether the arguments were understood.
+fn run(arguments: &[OsString], out: &mut impl Write) -> io::Result<bool> {
+    let Some((command, rest)) = arguments.split_first() else { return Ok(false) };
+    match (command.to_str(), rest) {
+        (Some("verdict"), files) => each_file(files, verdict_lines, out)?,
+        (Some("form"), files) => each_file(files, form_lines, out)?,
+        (Some("regroup"), [first, second, list]) => {
+            let answer = regroup(&contents(first), &contents(second), &contents(list));
+            writeln!(out, "{}", regroup_line(&answer))?;
+        }
+        (Some(command @ ("cases" | "pairs" | "count")), [seed, many]) => {
+            let (Some(seed), Some(many)) = (number(seed), number(many)) else { return Ok(false) };
+            generated(command, seed, many, out)?;
+        }
+        _ => return Ok(false),
+    }
+    Ok(true)
+}
+
+fn number(argument: &OsString) -> Option<u64> {
+    argument.to_str()?.parse().ok()
+}
+
+/// A file that cannot be read counts as empty.
+fn contents(file: &OsString) -> Vec<u8> {
+    fs::read(file).unwrap_or_default()
+}
+
+fn each_file(
+    files: &[OsString],
+    lines: fn(&[u8]) -> Vec<String>,
+    out: &mut impl Write,
+) -> io::Result<()> {
+    if files.is_empty() {
+        let mut message = Vec::new();
+        io::stdin().lock().read_to_end(&mut message)?;
+        return lines(&message).iter().try_for_each(|line| writeln!(out, "{line}"));
+    }
+    for file in files {
+        let prefix =
+            if files.len() == 1 { String::new() } else { format!("{}: ", file.to_string_lossy()) };
+        for line in lines(&contents(file)) {
+            writeln!(out, "{prefix}{line}")?;
+        }
+    }
+    Ok(())
+}
+
+fn form_lines(message: &[u8]) -> Vec<String> {
+    vec![match form(message) {
+        Ok(_) => "of the form".to_string(),
+        Err(offset) => format!("refused at {offset}"),
+    }]
+}
+
+fn verdict_lines(message: &[u8]) -> Vec<String> {
+    let mut table = [0; 1024];
+    match verdict(message, &mut table) {
+        Verdict::Accepted { blocks, payments, cents } => {
+            let accepted = format!("ACCEPTED blocks={blocks} payments={payments} cents={cents}");
+            let rows = table.chunks_exact(16).take(payments as usize).enumerate();
+            let payments = rows.map(|(ordinal, row)| payment_line(message, ordinal, row));
+            std::iter::once(accepted).chain(payments).collect()
+        }
+        Verdict::Refused { number, element, offset } => {
+            vec![refusal_line(&Refusal { number, element, offset })]
+        }
+    }
+}
+
+fn payment_line(message: &[u8], ordinal: usize, row: &[u32]) -> String {
+    let text = |at: usize| {
+        let start = row[at] as usize;
+        let part = message.get(start..start + row[at + 1] as usize);
+        String::from_utf8_lossy(part.unwrap_or(&[])).into_owned()
+    };
+    let cents = u64::from(row[13]) * 100 + u64::from(row[14]);
+    format!("{ordinal} {} {} {} {cents} {}", row[0], text(11), text(3), text(1))
+}
+
+fn refusal_line(Refusal { number, element, offset }: &Refusal) -> String {
+    format!("REFUSED {number} element={element} offset={offset}")
+}
+
+fn regroup_line(answer: &Regroup) -> String {
+    match answer {
+        Regroup::Accepted => "ACCEPTED".to_string(),
+        Regroup::Message { whose: 1, refusal } => format!("FIRST {}", refusal_line(refusal)),
+        Regroup::Message { refusal, .. } => format!("SECOND {}", refusal_line(refusal)),
+        Regroup::Refused { number, k, field } => format!("REFUSED {number} k={k} field={field}"),
+    }
+}
+
+fn generated(command: &str, seed: u64, many: u64, out: &mut impl Write) -> io::Result<()> {
+    match command {
+        "cases" => (0..many).try_for_each(|index| frame(&generate::case(seed, index).message, out)),
+        "pairs" => (0..many).try_for_each(|index| {
+            let pair = generate::pair(seed, index);
+            [pair.first, pair.second, pair.list].iter().try_for_each(|bytes| frame(bytes, out))
+        }),
+        _ => count(seed, many, out),
+    }
+}
+
+fn frame(bytes: &[u8], out: &mut impl Write) -> io::Result<()> {
+    out.write_all(&(bytes.len() as u32).to_le_bytes())?;
+    out.write_all(bytes)
+}
+
+/// How often each number was reached, and on which elements or fields.
+#[derive(Default)]
+struct Reached(BTreeMap<u32, (u64, BTreeSet<u32>)>);
+
+impl Reached {
+    fn add(&mut self, number: u32, element: u32) {
+        let (times, elements) = self.0.entry(number).or_default();
+        *times += 1;
+        elements.insert(element);
+    }
+
+    fn print(&self, title: &str, out: &mut impl Write) -> io::Result<()> {
+        writeln!(out, "{title}")?;
+        for (number, (times, elements)) in &self.0 {
+            let name = if *number == 0 { "accepted".to_string() } else { number.to_string() };
+            let elements: Vec<String> = elements.iter().map(u32::to_string).collect();
+            writeln!(out, "{name:>8} {times:>7}  on {}", elements.join(" "))?;
+        }
+        Ok(())
+    }
+}
+
+fn count(seed: u64, many: u64, out: &mut impl Write) -> io::Result<()> {
+    let (mut messages, mut pairs) = (Reached::default(), Reached::default());
+    for index in 0..many {
+        let case = generate::case(seed, index);
+        match verdict(&case.message, &mut vec![0; case.table]) {
+            Verdict::Accepted { .. } => messages.add(0, 0),
+            Verdict::Refused { number, element, .. } => messages.add(number, element),
+        }
+        let pair = generate::pair(seed, index);
+        match regroup(&pair.first, &pair.second, &pair.list) {
+            Regroup::Accepted => pairs.add(0, 0),
+            Regroup::Message { refusal, .. } => pairs.add(refusal.number, refusal.element),
+            Regroup::Refused { number, field, .. } => pairs.add(number, field),
+        }
+    }
+    messages.print("messages (refusal, times, elements)", out)?;
+    pairs.print("pairs (refusal, times, elements or fields)", out)
+}

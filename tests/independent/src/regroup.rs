@@ -1,0 +1,109 @@
+//! The regrouping list: refusals 15 to 20 and the differing part.
+
+use crate::fields::lowest_difference;
+use crate::{read, Accepted, Refusal};
+
+#[derive(Clone, Copy, Debug, PartialEq, Eq)]
+pub enum Regroup {
+    Accepted,
+    /// The refusal of message 1 or 2.
+    Message {
+        whose: u32,
+        refusal: Refusal,
+    },
+    Refused {
+        number: u32,
+        k: u32,
+        field: u32,
+    },
+}
+
+/// Whether the second message regroups the first by that list.
+pub fn regroup(first: &[u8], second: &[u8], list: &[u8]) -> Regroup {
+    match read_both(first, second).and_then(|(first, second)| judge(&first, &second, list)) {
+        Ok(()) => Regroup::Accepted,
+        Err(refused) => refused,
+    }
+}
+
+/// For refusal 20, where the differing field's text stands in the second
+/// message; otherwise the empty part at 0.
+pub fn differing(first: &[u8], second: &[u8], list: &[u8]) -> (usize, usize) {
+    let Regroup::Refused { number: 20, k, field } = regroup(first, second, list) else {
+        return (0, 0);
+    };
+    crate::field(second, k as usize, field)
+}
+
+fn read_both<'f, 's>(
+    first: &'f [u8],
+    second: &'s [u8],
+) -> Result<(Accepted<'f>, Accepted<'s>), Regroup> {
+    let first = read(first).map_err(|refusal| Regroup::Message { whose: 1, refusal })?;
+    let second = read(second).map_err(|refusal| Regroup::Message { whose: 2, refusal })?;
+    Ok((first, second))
+}
+
+fn judge(first: &Accepted, second: &Accepted, list: &[u8]) -> Result<(), Regroup> {
+    let refuse = |number| Regroup::Refused { number, k: 0, field: 0 };
+    let payments = second.order.payments().len();
+    if first.order.payments().len() != payments {
+        return Err(refuse(15));
+    }
+    let ordinals = ordinals(list).ok_or(refuse(16))?;
+    if ordinals.len() != payments {
+        return Err(refuse(17));
+    }
+    (0..payments).try_for_each(|k| pair(first, second, &ordinals, k))
+}
+
+/// 18, 19 and 20 for the payment that stands k-th in the second message.
+fn pair(first: &Accepted, second: &Accepted, ordinals: &[usize], k: usize) -> Result<(), Regroup> {
+    let refuse = |number, field| Err(Regroup::Refused { number, k: k as u32, field });
+    let (firsts, seconds) = (first.order.payments(), second.order.payments());
+    let Some(named) = firsts.get(ordinals[k]) else { return refuse(18, 0) };
+    if ordinals[..k].contains(&ordinals[k]) {
+        return refuse(19, 0);
+    }
+    match lowest_difference((&first.order, named), (&second.order, &seconds[k])) {
+        Some(field) => refuse(20, field),
+        None => Ok(()),
+    }
+}
+
+/// The ordinals of a list file: `RGL`, version 1, count, that many ordinals.
+fn ordinals(list: &[u8]) -> Option<Vec<usize>> {
+    let pairs = list.strip_prefix(b"RGL")?.chunks_exact(2);
+    if !pairs.remainder().is_empty() {
+        return None;
+    }
+    let mut numbers = pairs.map(|pair| usize::from(u16::from_be_bytes([pair[0], pair[1]])));
+    let (version, count) = (numbers.next()?, numbers.next()?);
+    let ordinals: Vec<usize> = numbers.collect();
+    (version == 1 && ordinals.len() == count).then_some(ordinals)
+}
+
+#[cfg(test)]
+mod tests {
+    use super::*;
+
+    #[test]
+    fn lists() {
+        assert_eq!(ordinals(b"RGL\0\x01\0\0"), Some(vec![]));
+        assert_eq!(ordinals(b"RGL\0\x01\0\x02\0\x01\x01\0"), Some(vec![1, 256]));
+        for wrong in [
+            &b""[..],
+            b"RGL",
+            b"RGL\0\x01",
+            b"RGL\0\x01\0",
+            b"RGM\0\x01\0\0",
+            b"RGL\0\x02\0\0",
+            b"RGL\0\x01\0\0\0",
+            b"RGL\0\x01\0\0\0\0",
+            b"RGL\0\x01\0\x02\0\0",
+            b"RGL\0\x01\0\x01\0",
+        ] {
+            assert_eq!(ordinals(wrong), None, "{wrong:?}");
+        }
+    }
+}

@@ -1,0 +1,339 @@
+//! The whole messages and the snippets that the source documents print, with the
+//! verdicts of published.md. Shared by the test over them and by the program that
+//! writes them for the crate `published`.
+
+use super::*;
+use independent::Regroup;
+
+pub struct Example {
+    pub name: String,
+    pub message: String,
+    pub wanted: Verdict,
+}
+
+pub struct Regrouping {
+    pub name: String,
+    pub first: String,
+    pub second: String,
+    pub list: Vec<u8>,
+    pub wanted: Regroup,
+}
+
+/// What is repaired, how, and the verdict after it.
+type Step<'s> = (&'s str, &'s dyn Fn(&str) -> String, Verdict);
+
+/// The message as printed, and after one repair after the other.
+fn repaired(name: &str, message: &str, printed: Verdict, steps: &[Step]) -> Vec<Example> {
+    let mut text = message.to_string();
+    let first = Example { name: format!("{name} as printed"), message: text.clone(), wanted: printed };
+    let mut examples = vec![first];
+    for (number, (what, repair, wanted)) in (1..).zip(steps) {
+        text = repair(&text);
+        let name = format!("{name} step {number}, {what}");
+        examples.push(Example { name, message: text.clone(), wanted: *wanted });
+    }
+    examples
+}
+
+/// Takes out the first line that has this piece, with its line end.
+fn without_line(text: &str, piece: &str) -> String {
+    let at = text.find(piece).expect("the line");
+    let start = text[..at].rfind('\n').map_or(0, |end| end + 1);
+    let end = at + text[at..].find('\n').expect("the line's end") + 1;
+    format!("{}{}", &text[..start], &text[end..])
+}
+
+/// Takes out all lines from the one with the first piece to the one with the second.
+fn without_lines(text: &str, first: &str, last: &str) -> String {
+    let at = text.find(first).expect("the first line");
+    let start = text[..at].rfind('\n').map_or(0, |end| end + 1);
+    let at = start + text[start..].find(last).expect("the last line") + last.len();
+    let end = at + text[at..].find('\n').expect("the line's end") + 1;
+    format!("{}{}", &text[..start], &text[end..])
+}
+
+pub fn example_1_4() -> Vec<Example> {
+    repaired(
+        "001-1.4",
+        include_str!("../published/001-1.4.xml"),
+        refused(2, 0, 60),
+        &[
+            ("urn:urn to urn", &|t| with(t, "urn:urn", "urn"), refused(2, 0, 103)),
+            (
+                "no xmlns:xs",
+                &|t| with(t, " xmlns:xs=\"\nhttp://www.w3.org/2001/XMLSchema\"", ""),
+                refused(3, 1, 109),
+            ),
+            (
+                "both InItN tags right",
+                &|t| t.replace("CstmrCdtTrfInItN", "CstmrCdtTrfInitn"),
+                refused(3, 2, 136),
+            ),
+            ("no text", &|t| with(t, "message content...", ""), refused(4, 3, 141)),
+        ],
+    )
+}
+
+const SCHEMA: &str = "\nxmlns:xsi=\"http://www.w3.org/2001/XMLSchema-instance\"";
+
+fn declared(text: &str) -> String {
+    with(
+        text,
+        "<xml version=\"1.0\" encoding=\"UTF-8\">",
+        "<?xml version=\"1.0\" encoding=\"UTF-8\"?>",
+    )
+}
+
+pub fn example_6_1() -> Vec<Example> {
+    repaired(
+        "001-6.1",
+        include_str!("../published/001-6.1.xml"),
+        refused(2, 0, 1),
+        &[
+            ("<?xml ..?>", &declared, refused(2, 0, 103)),
+            ("no xmlns:xsi", &|t| with(t, SCHEMA, ""), refused(2, 0, 398)),
+            ("</Orgld> right (2971)", &|t| with(t, "</Orgld>", "</OrgId>"), refused(2, 0, 3461)),
+            (
+                "PstlAdr once (3135)",
+                &|t| with(t, "<PstlAdr><PstlAdr>", "<PstlAdr>"),
+                refused(3, 1, 105),
+            ),
+            (
+                "Inittn to Initn",
+                &|t| t.replace("CstmrCdtTrfInittn", "CstmrCdtTrfInitn"),
+                refused(3, 3, 219),
+            ),
+            (
+                "NbOfTx right (2958)",
+                &|t| with(t, "<NbOfTx>3</NbOfTx>", "<NbOfTxs>3</NbOfTxs>"),
+                refused(3, 8, 310),
+            ),
+            (
+                "no InitgPty/Id",
+                &|t| without_lines(t, "    <Id>", "\n</Id>"),
+                refused(3, 10, 444),
+            ),
+            (
+                "NbOfTxes right (2979)",
+                &|t| with(t, "<NbOfTxes>2</NbOfTxes>", "<NbOfTxs>2</NbOfTxs>"),
+                refused(3, 38, 1017),
+            ),
+            ("no UETR", &|t| without_line(t, "<UETR>"), refused(3, 44, 1208)),
+            (
+                "no PstlAdr",
+                &|t| without_lines(t, "<PstlAdr>", "</PstlAdr>"),
+                refused(3, 38, 1451),
+            ),
+            ("no second UETR", &|t| without_line(t, "<UETR>"), refused(3, 10, 2000)),
+            ("no second block", &|t| with(t, second_block(t), ""), refused(12, 6, 219)),
+            ("count 2", &|t| with(t, "<NbOfTxs>3", "<NbOfTxs>2"), refused(13, 7, 244)),
+            (
+                "sum 1935.25",
+                &|t| with(t, "<CtrlSum>74776", "<CtrlSum>1935.25"),
+                accepted(1, 2, 193_525),
+            ),
+        ],
+    )
+}
+
+fn second_block(text: &str) -> &str {
+    let first_end = text.find("</PmtInf>").expect("the first block") + "</PmtInf>".len();
+    element(&text[first_end..], "PmtInf")
+}
+
+/// With the second and third stray lines goes one empty line each.
+pub fn example_6_2() -> Vec<Example> {
+    repaired(
+        "001-6.2",
+        include_str!("../published/001-6.2.xml"),
+        refused(2, 0, 1),
+        &[
+            ("<?xml ..?>", &declared, refused(2, 0, 103)),
+            ("no xmlns:xsi", &|t| with(t, SCHEMA, ""), refused(2, 0, 1534)),
+            (
+                "stray 3194-3195 out",
+                &|t| without_lines(t, "</PmtInf>", "</CstmrCdtTrfInitn>"),
+                refused(2, 0, 1503),
+            ),
+            (
+                "stray 3235-3237 out",
+                &|t| with(t, "    </PstlAdr>\n  </Cdtr>\n</CdtTrfTxInf>\n\n", ""),
+                refused(2, 0, 2060),
+            ),
+            (
+                "stray 3279, 3284-3285 out",
+                &|t| with(t, "</CdtTrfTxInf>\n\n</Id>\n</CdtrAcct>\n", ""),
+                refused(2, 0, 2283),
+            ),
+            (
+                "Initt right (3300)",
+                &|t| with(t, "CstmrCdtTrfInitt>", "CstmrCdtTrfInitn>"),
+                refused(3, 3, 219),
+            ),
+            ("both NbOfTxes right", &|t| t.replace("NbOfTxes", "NbOfTxs"), refused(3, 8, 318)),
+            (
+                "no Id",
+                &|t| without_lines(t, "      <Id>", "\n      </Id>"),
+                refused(3, 38, 939),
+            ),
+            ("no UETR", &|t| without_line(t, "<UETR>"), refused(3, 44, 1130)),
+            (
+                "no PstlAdr",
+                &|t| without_lines(t, "<PstlAdr>", "</PstlAdr>"),
+                refused(3, 38, 1353),
+            ),
+            ("no second UETR", &|t| without_line(t, "<UETR>"), accepted(1, 2, 193_525)),
+        ],
+    )
+}
+
+fn last(examples: Vec<Example>) -> String {
+    examples.into_iter().last().expect("an example").message
+}
+
+/// The repaired 6.1 regrouped to the repaired 6.2.
+pub fn regroupings() -> Vec<Regrouping> {
+    let (first, second) = (last(example_6_1()), last(example_6_2()));
+    let booked = with(&first, "<BtchBookg>false", "<BtchBookg>true");
+    let differs = |field| Regroup::Refused { number: 20, k: 0, field };
+    let regrouping = |name: &str, first: &str, ordinals: &[u16], wanted| Regrouping {
+        name: format!("001-6.1 to 001-6.2{name}"),
+        first: first.to_string(),
+        second: second.clone(),
+        list: list(ordinals),
+        wanted,
+    };
+    vec![
+        regrouping(" by 0, 1", &first, &[0, 1], differs(1)),
+        regrouping(", batch booking equal, by 0, 1", &booked, &[0, 1], Regroup::Accepted),
+        regrouping(", batch booking equal, by 1, 0", &booked, &[1, 0], differs(10)),
+    ]
+}
+
+/// M1 with a printed snippet for the first element of that name in it.
+fn instead_of(name: &str, snippet: &str) -> String {
+    m1(element(M1, name), snippet)
+}
+
+/// M1 with a printed snippet before the first piece like this.
+fn before(piece: &str, snippet: &str) -> String {
+    m1(piece, &format!("{snippet}{piece}"))
+}
+
+/// M1 with a piece of its first block for another.
+fn in_block(name: &str, snippet: &str) -> String {
+    let block = element(M1, "PmtInf");
+    m1(block, &with(block, element(block, name), snippet))
+}
+
+fn snippet(lines: &str, message: String, wanted: Verdict) -> Example {
+    let document = if lines.contains(':') { "" } else { "001:" };
+    Example { name: format!("{document}{lines} in M1"), message, wanted }
+}
+
+pub fn accepted_snippets() -> Vec<Example> {
+    let agent = "<DbtrAgt>\n\n\n    <FinInstnId>\n      <BICFI>AAAALULLXXX</BICFI>\n    </FinInstnId>\n  </DbtrAgt>";
+    let no_agent = "<DbtrAgt>\n  <FinInstnId>\n    <Othr>\n      <Id>NOTPROVIDED</Id>\n    </Othr>\n  </FinInstnId>\n</DbtrAgt>";
+    let reference = "<CdtrRefInf>\n <Tp>\n <CdOrPrtry>\n <Cd>SCOR</Cd>\n </CdOrPrtry>\n </Tp>\n <Ref>+++01234012401313+++</Ref>\n</CdtrRefInf>";
+    [
+        ("1346", instead_of("MsgId", "<MsgId>ABC/060928/CCT001</MsgId>")),
+        ("1360", instead_of("CreDtTm", "<CreDtTm>2010-12-18T08:35:30</CreDtTm>")),
+        ("1508", instead_of("PmtMtd", "<PmtMtd>TRF</PmtMtd>")),
+        ("1605", before("<SvcLvl>", "<InstrPrty>NORM</InstrPrty>")),
+        ("1658", instead_of("Cd", "<Cd>SEPA</Cd>")),
+        ("1712", before("</PmtTpInf>", "<CtgyPurp><Cd>SALA</Cd></CtgyPurp>")),
+        (
+            "1749-1751",
+            instead_of("ReqdExctnDt", " <ReqdExctnDt>\n <Dt>2021-05-31</Dt>\n </ReqdExctnDt>"),
+        ),
+        (
+            "1867-1871",
+            instead_of(
+                "DbtrAcct",
+                "<DbtrAcct>\n <Id>\n <IBAN>LU566541234567890123</IBAN>\n </Id>\n </DbtrAcct>",
+            ),
+        ),
+        ("1908-1915", instead_of("DbtrAgt", agent)),
+        ("1923-1929", instead_of("DbtrAgt", no_agent)),
+        ("2062", before("\n<CdtTrfTxInf>", "<ChrgBr>SLEV</ChrgBr>")),
+        ("2106", before("<EndToEndId>", "<InstrId>1234567890</InstrId>")),
+        ("2124", instead_of("EndToEndId", "<EndToEndId>ABC/4562/2010-09-25</EndToEndId>")),
+        ("2421", before("<Cdtr>", "<ChrgBr>SLEV</ChrgBr>")),
+        (
+            "2633-2637",
+            instead_of(
+                "CdtrAcct",
+                "<CdtrAcct>\n <Id>\n <IBAN>LU566541234567890123</IBAN>\n </Id>\n </CdtrAcct>",
+            ),
+        ),
+        ("2762", before("</CdtTrfTxInf>", "<Purp><Cd>ELEC</Cd></Purp>")),
+        (
+            "2869-2876",
+            before("</CdtTrfTxInf>", &format!("<RmtInf><Strd>{reference}</Strd></RmtInf>")),
+        ),
+        ("004:1498", instead_of("CreDtTm", "<CreDtTm>2010-06-10T08:35:30</CreDtTm>")),
+        ("004:1667", before("<SvcLvl>", "<InstrPrty>HIGH</InstrPrty>")),
+        ("004:2686", instead_of("CreDtTm", "<CreDtTm>2010-12-10T08:35:30</CreDtTm>")),
+    ]
+    .into_iter()
+    .map(|(lines, message)| snippet(lines, message, accepted(1, 2, 3510)))
+    .collect()
+}
+
+pub fn refused_snippets() -> Vec<Example> {
+    let initiator = "<InitgPty>\n  <Nm>Luxcompany</Nm>\n  <Id>\n    <OrgId>\n      <Othr>\n        <Id>0123456789</Id>\n      </Othr>\n    </OrgId>\n  </Id>\n</InitPty>";
+    let debtor_with_empty_lines = "<Dbtr>\n\n<Nm>ABC Corporation</Nm>\n\n<PstlAdr>\n\n<StrtNm>Times Square</StrtNm>\n\n<BldgNb>7</BldgNb>\n\n<PstCd>NY 10036</PstCd>\n\n<TwnNm>New York</TwnNm>\n\n<Ctry>US</Ctry>\n\n</PstlAdr>\n\n</Dbtr>";
+    let debtor = "<Dbtr>\n  <Nm>Luxcompany</Nm>\n  <PstlAdr>\n    <AdrLine>59 Boulevard Royal</AdrLine>\n    <AdrLine>L-2010 Luxembourg</AdrLine>\n    <Ctry>LU</Ctry>\n  </PstlAdr>\n</Dbtr>";
+    let ultimate_debtor = "<UltmtDbtr>\n\n\n    <Id>\n      <OrgId>\n        <Othr>\n          <Id>0123456789</Id>\n        </Othr>\n      </OrgId>\n    </Id>\n  </UltmtDbtr>";
+    let equivalent =
+        "<EqvtAmt>\n  <Amt Ccy=\"EUR\">1500</Amt>\n  <CcyOfTrf>JPY</CcyOfTrf>\n</EqvtAmt>";
+    let agent =
+        "<CdtrAgt>\n  <FinInstnId>\n    <BIC>AAAALULLXXX</BIC>\n  </FinInstnId>\n</CdtrAgt>";
+    let agent_with_system = "<CdtrAgt>  \n  <FinInstnId>  \n    <BIC>AAAAGBXX</BIC>  \n    <ClrSysMmbld>  \n      <ClrSysId>  \n        <Cd>GBDSC123456</Cd>  \n      </ClrSysId>  \n      <Mmbld>123456</Mmbld>  \n    </ClrSysMmbld>  \n  </FinInstnId>  \n</CdtrAgt>";
+    let creditor = "<Cdtr>\n  <Nm>Luxcompany</Nm>\n  <PstAdr>\n    <AdrLine>59 Boulevard Royal</AdrLine>\n    <PstCd>L-2010</PstCd>\n    <TwnNm>Luxembourg</TwnNm>\n    <Ctry>LU</Ctry>\n  </PstAdr>\n</Cdtr>";
+    let ultimate_creditor = "<UltmtCDtr>\n <Id>\n <OrgId>\n <Othr>\n <Id>0123456789</Id>\n </Othr>\n </OrgId>\n </Id>\n</UltmtCdtr>";
+    [
+        ("1374", instead_of("NbOfTxs", "<NbOfTxs>3</NbOfTxs>"), (12, 6, 147)),
+        ("1388", instead_of("CtrlSum", "<CtrlSum>12.56</CtrlSum>"), (13, 7, 167)),
+        ("1556", in_block("CtrlSum", "<CtrlSum>12.56</CtrlSum>"), (13, 15, 308)),
+        ("1439-1448", instead_of("InitgPty", initiator), (2, 0, 325)),
+        (
+            "1487",
+            instead_of("PmtInfId", "<PmtInflId> ABC/1234/2010-09-25</PmtInflId>"),
+            (3, 10, 245),
+        ),
+        (
+            "1528",
+            in_block("NbOfTxs", "<BtchBookg>>false</BtchBookg><NbOfTxs>2</NbOfTxs>"),
+            (6, 13, 288),
+        ),
+        ("1542", in_block("NbOfTxs", "<NbOfTx>55</NbOfTx>"), (3, 10, 288)),
+        ("1674", instead_of("Cd", "<Prtry>NONSEPTARIF1</Prtry>"), (3, 18, 349)),
+        ("1808-1826", instead_of("Dbtr", debtor_with_empty_lines), (3, 24, 462)),
+        ("1832-1839", instead_of("Dbtr", debtor), (3, 24, 459)),
+        ("2015-2026", instead_of("UltmtDbtr", ultimate_debtor), (3, 34, 607)),
+        (
+            "2285",
+            instead_of("InstdAmt", "<InstdAmt Ccy=\u{201c}EUR\u{201d}>4723.34</InstdAmt>"),
+            (2, 0, 704),
+        ),
+        ("2313-2316", instead_of("InstdAmt", equivalent), (2, 0, 706)),
+        ("2343", instead_of("Amt", "<Amt Ccy=\"EUR\">1500</Amt>"), (2, 0, 689)),
+        ("2389", before("<Cdtr>", "<CtrctId>FX222222111111</CtrctId>"), (3, 37, 731)),
+        ("2485-2489", before("<Cdtr>", agent), (3, 30, 760)),
+        ("2496-2506", before("<Cdtr>", agent_with_system), (3, 30, 764)),
+        ("2600-2608", instead_of("Cdtr", creditor), (3, 44, 762)),
+        ("2692-2700", before("</CdtTrfTxInf>", ultimate_creditor), (2, 0, 912)),
+        (
+            "2724",
+            before("</CdtTrfTxInf>", "<InstrForDbtrAgt>SDVA/ADEB</InstrForDbtrAgt>"),
+            (3, 37, 822),
+        ),
+        ("004:1635", instead_of("SvcLvl", "<SvcLvl><Cd>URGP<Cd>, see 2.9)."), (2, 0, 358)),
+    ]
+    .into_iter()
+    .map(|(lines, message, (number, element, offset))| {
+        snippet(lines, message, refused(number, element, offset))
+    })
+    .collect()
+}

@@ -1,0 +1,215 @@
+//! Generated messages and pairs: sound ones are accepted as made, damaged ones
+//! reach every refusal that can be reached, and no refusal writes.
+
+mod common;
+use common::list;
+use independent::generate::transfer::{Remittance, Transfer};
+use independent::generate::{case, pair, sound_message};
+use independent::{differing, field, form, regroup, verdict, Regroup, Verdict};
+use std::collections::{BTreeMap, BTreeSet};
+
+const SEED: u64 = 2026;
+
+fn text(message: &[u8], payment: usize, number: u32) -> &str {
+    let (start, length) = field(message, payment, number);
+    std::str::from_utf8(&message[start..start + length]).unwrap()
+}
+
+/// The texts a transfer's fields must have; none where several are allowed.
+fn expected_texts(transfer: &Transfer) -> [Option<String>; 17] {
+    let absent = |text: &Option<String>| Some(text.clone().unwrap_or_default());
+    let side = &transfer.side;
+    let agent = side.agent.clone().unwrap_or("NOTPROVIDED".to_string());
+    let remittance = match &transfer.remittance {
+        None => String::new(),
+        Some(Remittance::Plain(text)) => text.clone(),
+        Some(Remittance::Reference { reference, .. }) => reference.clone(),
+    };
+    [
+        (!side.batch).then(|| "false".to_string()),
+        transfer.kind.high.then(|| "HIGH".to_string()),
+        absent(&transfer.kind.category),
+        Some(side.date.clone()),
+        Some(side.debtor.clone()),
+        Some(side.account.clone()),
+        Some(agent),
+        absent(&transfer.ultimate_debtor),
+        absent(&transfer.instruction),
+        Some(transfer.end_to_end.clone()),
+        None,
+        absent(&transfer.creditor_agent),
+        Some(transfer.creditor.clone()),
+        Some(transfer.creditor_account.clone()),
+        absent(&transfer.ultimate_creditor),
+        absent(&transfer.purpose),
+        Some(remittance),
+    ]
+}
+
+#[test]
+fn sound_messages_are_accepted_with_the_fields_they_were_made_of() {
+    for index in 0..120 {
+        let sound = sound_message(SEED, index);
+        for (payment, transfer) in sound.transfers.iter().enumerate().step_by(5) {
+            let fields = expected_texts(transfer);
+            for (number, wanted) in (1..).zip(&fields) {
+                let found = text(&sound.message, payment, number);
+                match wanted {
+                    Some(wanted) => assert_eq!(found, wanted, "field {number}"),
+                    None => assert!(number == 11 || ["", "true", "NORM"].contains(&found)),
+                }
+            }
+        }
+    }
+}
+
+#[test]
+fn sound_messages_fill_the_table() {
+    for index in 0..600 {
+        let sound = sound_message(SEED + 1, index);
+        let mut table = vec![0xABCD; 1040];
+        let answer = verdict(&sound.message, &mut table);
+        let Verdict::Accepted { blocks, payments, cents } = answer else { panic!("{answer:?}") };
+        assert_eq!(payments as usize, sound.transfers.len());
+        assert_eq!(cents, sound.transfers.iter().map(|transfer| transfer.cents).sum::<u64>());
+        let part = |at: usize| {
+            let (start, length) = (table[at] as usize, table[at + 1] as usize);
+            std::str::from_utf8(&sound.message[start..start + length]).unwrap()
+        };
+        for (k, transfer) in sound.transfers.iter().enumerate() {
+            let at = 16 * k;
+            assert!(table[at] < blocks);
+            assert!(k == 0 || table[at] == table[at - 16] || table[at] == table[at - 16] + 1);
+            assert_eq!(part(at + 1), transfer.end_to_end);
+            assert_eq!(part(at + 3), transfer.creditor_account);
+            assert_eq!(part(at + 5), transfer.creditor);
+            assert_eq!(part(at + 7), transfer.ultimate_debtor.as_deref().unwrap_or(""));
+            assert_eq!(transfer.ultimate_debtor.is_none(), table[at + 7] == 0);
+            assert!(part(at + 9).contains("<SvcLvl>"));
+            assert_eq!(part(at + 9).contains("HIGH"), transfer.kind.high);
+            assert_eq!(part(at + 11), transfer.side.account);
+            assert_eq!(u64::from(table[at + 13]) * 100 + u64::from(table[at + 14]), transfer.cents);
+            assert!(sound.message[table[at + 15] as usize..].starts_with(b"<CdtTrfTxInf>"));
+        }
+        assert!(table[16 * payments as usize..].iter().all(|number| *number == 0xABCD));
+    }
+}
+
+#[test]
+fn sound_messages_span_the_subset() {
+    let sounds: Vec<_> = (0..1500).map(|index| sound_message(SEED + 2, index)).collect();
+    let has = |piece: &str| {
+        sounds.iter().any(|sound| String::from_utf8_lossy(&sound.message).contains(piece))
+    };
+    for tag in independent::rows::tags() {
+        assert!(has(&format!("</{tag}>")), "{tag}");
+    }
+    assert!(has("<?xml") && has("\r\n") && has("\t") && has("Othr"));
+    assert!(sounds.iter().any(|sound| sound.message.starts_with(b"<Doc")));
+    let mut blocks = BTreeSet::new();
+    let mut payments = BTreeSet::new();
+    for sound in &sounds {
+        let answer = verdict(&sound.message, &mut [0; 1024]);
+        let Verdict::Accepted { blocks: b, payments: p, .. } = answer else { panic!("{answer:?}") };
+        blocks.insert(b);
+        payments.insert(p);
+    }
+    assert_eq!(blocks, (1..=16).collect());
+    assert!(payments.len() > 50 && payments.contains(&1) && payments.contains(&64));
+}
+
+#[test]
+fn every_reachable_refusal_of_a_message_is_reached() {
+    let mut reached: BTreeMap<u32, BTreeSet<u32>> = BTreeMap::new();
+    for index in 0..4000 {
+        let case = case(SEED, index);
+        let mut table = vec![index as u32; case.table];
+        match verdict(&case.message, &mut table) {
+            Verdict::Accepted { .. } => drop(reached.entry(0).or_default()),
+            Verdict::Refused { number, element, offset } => {
+                reached.entry(number).or_default().insert(element);
+                assert!(table.iter().all(|kept| *kept == index as u32));
+                assert!(offset <= case.message.len());
+            }
+        }
+    }
+    let numbers: Vec<u32> = reached.keys().copied().collect();
+    assert_eq!(numbers, (0..=14).collect::<Vec<_>>());
+    assert_eq!(reached[&5], BTreeSet::from([10, 37]));
+    assert_eq!(reached[&9], BTreeSet::from([16, 34, 36]));
+    assert_eq!(reached[&12], BTreeSet::from([6, 14]));
+    assert_eq!(reached[&13], BTreeSet::from([7, 15]));
+    assert!([3, 4, 6, 7, 8].iter().all(|number| reached[number].len() >= 15));
+}
+
+#[test]
+fn every_regrouping_refusal_is_reached_and_as_expected() {
+    let mut numbers = BTreeSet::new();
+    let mut fields = BTreeSet::new();
+    for index in 0..2500 {
+        let pair = pair(SEED, index);
+        let answer = regroup(&pair.first, &pair.second, &pair.list);
+        if let Some(expected) = pair.expected {
+            assert_eq!(answer, expected, "pair {index}");
+        }
+        let part = differing(&pair.first, &pair.second, &pair.list);
+        match answer {
+            Regroup::Accepted => drop(numbers.insert(0)),
+            Regroup::Message { whose, refusal } => {
+                let message = if whose == 1 { &pair.first } else { &pair.second };
+                let Verdict::Refused { number, .. } = verdict(message, &mut [0; 1024]) else {
+                    panic!()
+                };
+                assert_eq!(number, refusal.number);
+                numbers.insert(100 * whose);
+            }
+            Regroup::Refused { number, k, field: differs } => {
+                numbers.insert(number);
+                fields.insert(differs);
+                if number == 20 {
+                    assert_eq!(part, field(&pair.second, k as usize, differs));
+                    continue;
+                }
+            }
+        }
+        assert_eq!(part, (0, 0));
+    }
+    assert_eq!(numbers, BTreeSet::from([0, 15, 16, 17, 18, 19, 20, 100, 200]));
+    assert_eq!(fields, (0..=17).collect());
+}
+
+#[test]
+fn a_message_regroups_itself_by_the_rising_list() {
+    for index in 0..100 {
+        let sound = sound_message(SEED + 3, index);
+        let ordinals: Vec<u16> = (0..sound.transfers.len() as u16).collect();
+        let answer = regroup(&sound.message, &sound.message, &list(&ordinals));
+        assert_eq!(answer, Regroup::Accepted);
+    }
+}
+
+#[test]
+fn the_same_seed_gives_the_same_cases() {
+    for index in 0..50 {
+        assert_eq!(case(1, index).message, case(1, index).message);
+        assert_eq!(pair(1, index).list, pair(1, index).list);
+    }
+    assert_ne!(case(1, 0).message, case(2, 0).message);
+}
+
+#[test]
+fn the_trees_children_lie_in_their_parents_in_order() {
+    fn check(element: &form::Element) {
+        let mut from = element.content.start;
+        for child in &element.children {
+            assert!(child.offset >= from && child.content.end() < element.content.end());
+            from = child.content.end();
+            check(child);
+        }
+    }
+    for index in 0..100 {
+        if let Ok(tree) = form(&case(SEED + 4, index).message) {
+            check(&tree.root);
+        }
+    }
+}
