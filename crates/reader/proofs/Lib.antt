@@ -3,3 +3,4 @@ pub mod Readable
 pub mod Fits
 pub mod InTurn
 pub mod Verdicts
+pub mod Parts

@@ -7,16 +7,17 @@ use paper::Finding;
 use paper::Verdict;
 ghost use mathlib.Core.Path.{_≡_};
 ghost use mathlib.Core.Option.{none};
-ghost use Prim.Native.Nat.{ℕ, _≤_};
+ghost use Prim.Native.Nat.{ℕ, _+_, _≤_, _<_};
 ghost use lib.ListN.{length};
 ghost use Rattle.paper.specs.Form.{Element};
 ghost use Rattle.paper.specs.Rows.{rows};
 ghost use Rattle.paper.specs.Payments.{blocks as all-blocks, payments as all-payments};
-ghost use Rattle.paper.specs.Refusals.{tree-refusal, values-refusal, usage-refusal, ids-refusal, total-refusal, counts-refusal, _or-else_};
+ghost use Rattle.paper.specs.Refusals.{outcome-alone, tree-refusal, values-refusal, usage-refusal, ids-refusal, total-refusal, counts-refusal, _or-else_};
 ghost use Rattle.tree.specs.Laid.{Laid};
 ghost use Rattle.order.specs.Ordered.{Ordered};
 ghost use Rattle.reader.specs.Decided.{Shaped, Passes, Decided};
-ghost use Rattle.reader.specs.Answers.{Answers};
+ghost use Rattle.reader.specs.Answers.{Answers, HandsBack};
+ghost use Rattle.paper.specs.Fields.{field-of, field-part};
 
 // 1 and 2; where neither refuses, the tree is laid out.
 fn shape(s: &[u8], tree: &mut [u16]) -> Finding
@@ -123,6 +124,61 @@ pub fn verdict(message: &[u8], table: &mut [u32]) -> Verdict
                 payments,
                 cents,
             }
+        }
+    }
+}
+
+// So many bytes of the message from a place on; the empty part at 0 where it has not so many.
+pub fn part(message: &[u8], start: usize, size: usize) -> &[u8]
+    ensures { λ r. ⌜ (start + size ≤ length (now (message .entry)) → HandsBack (message .entry) r (record { start = start; size = size })) ⌝ }
+{
+    if message.len() < start {
+        return &message[0..0];
+    }
+    if message.len() - start < size {
+        return &message[0..0];
+    }
+    let end = start + size;
+    &message[start..end]
+}
+
+// The text of a field of payment k, whose element and block stand in the order; the empty part at 0 where there is no such element.
+pub fn field_in<'a>(
+    message: &'a [u8],
+    tree: &[u16],
+    order: &[u16],
+    k: usize,
+    field: usize,
+) -> &'a [u8]
+    ensures { λ r. ⌜ ((root : Element) → Ordered (now (message .entry)) (now (tree .entry)) (now (order .entry)) root → k < length (all-payments rows root) → k < 64 → HandsBack (message .entry) r (field-of rows (all-payments rows root) k field)) ⌝ }
+{
+    if 64 <= k {
+        return &message[0..0];
+    }
+    let own = tree::number(order, 16 + 3 * k);
+    let block = tree::number(order, 17 + 3 * k);
+    let span = table::span_of(tree, order::field_at(message, tree, own, block, field));
+    part(message, span.start, span.size)
+}
+
+// The text of a field, as a part of the message. Refused message, unknown payment or field, or no such element: the empty part at 0.
+pub fn field(message: &[u8], payment: usize, field: usize) -> &[u8]
+    ensures { λ r. ⌜ HandsBack (message .entry) r (field-part rows (outcome-alone rows (now (message .entry))) payment field) ⌝ }
+{
+    let mut tree = [0u16; 54615];
+    let mut order = [0u16; 208];
+    let found = outcome(message, &mut tree, &mut order);
+    match found {
+        Verdict::Refused(_) => &message[0..0],
+        Verdict::Accepted {
+            blocks: _,
+            payments,
+            cents: _,
+        } => {
+            if payments <= payment {
+                return &message[0..0];
+            }
+            field_in(message, &tree, &order, payment, field)
         }
     }
 }

@@ -28,7 +28,7 @@ use Rattle.table.specs.declared.Spans.{Spans}
 module _ {s tree : List ℕ} {o : Option Element} {f : Found} (h : Finds s tree o f) where
   pub nothing : f ≡ Nothing → SpanIs s (part-of o) (record { start = 0; size = 0 })
   unfolding part-of
-  nothing e = rw (found-none h e) (record { start-is = refl; size-is = refl; start-inside = omega arith; size-inside = omega arith })
+  nothing e = rw (found-none h e) (record { start-is = refl; size-is = refl; inside = omega arith })
 
   module _ {i start close : ℕ} (e : f ≡ At i) (a : Cell tree i 2 start) (b : Cell tree i 3 close) where
     pub never-ends-first : {A : Type 0} → close < start → A
@@ -49,8 +49,7 @@ module _ {s tree : List ℕ} {o : Option Element} {f : Found} (h : Finds s tree 
         (record {
           start-is = p;
           size-is = rw (p, q);
-          start-inside = omega (arith, p, w .start-first, w .close-inside);
-          size-inside = omega (arith, p, q, w .close-inside);
+          inside = omega (arith, p, q, w .start-first, w .close-inside);
         })
 
 -- one more number of a row
@@ -76,10 +75,10 @@ module _ {s : List ℕ} {p : Payment} {of : Spans} (w : length s ≤ 32768) (o :
   uncut h e = mod-eq-of-lt h ∙ e
 
   start-uncut : {part : Part} {r : Span} → SpanIs s part r → r .start % 4294967296 ≡ part .start
-  start-uncut i = uncut (omega (arith, i .start-inside, w)) (i .start-is)
+  start-uncut i = uncut (omega (arith, i .inside, w)) (i .start-is)
 
   size-uncut : {part : Part} {r : Span} → SpanIs s part r → r .size % 4294967296 ≡ part .size
-  size-uncut i = uncut (omega (arith, i .size-inside, w)) (i .size-is)
+  size-uncut i = uncut (omega (arith, i .inside, w)) (i .size-is)
 
   pub the-row : {number cents at : ℕ} {row : List ℕ} → Fitting p → number ≡ p .block-number → cents ≡ amount-of rows (p .own) → at ≡ head-of (p .own) .at → at ≤ length s
       → row ≡ number % 4294967296 ∷ of .id .start % 4294967296 ∷ of .id .size % 4294967296 ∷ of .creditor .start % 4294967296 ∷ of .creditor .size % 4294967296 ∷ of .name .start % 4294967296 ∷ of .name .size % 4294967296 ∷ of .ultimate .start % 4294967296 ∷ of .ultimate .size % 4294967296 ∷ of .kind .start % 4294967296 ∷ of .kind .size % 4294967296 ∷ of .debtor .start % 4294967296 ∷ of .debtor .size % 4294967296 ∷ cents / 100 % 4294967296 ∷ cents % 100 ∷ at % 4294967296 ∷ []

@@ -17,8 +17,7 @@ use Rattle.table.specs.declared.Spans.{Spans}
 pub record SpanIs (s : List ℕ) (part : Part) (r : Span) : Type 0 where
   pub start-is : r .start ≡ part .start
   pub size-is : r .size ≡ part .size
-  pub start-inside : r .start ≤ length s
-  pub size-inside : r .size ≤ length s
+  pub inside : r .start + r .size ≤ length s
 
 -- the six parts of a payment's row
 pub record SpansOf (s : List ℕ) (p : Payment) (r : Spans) : Type 0 where
