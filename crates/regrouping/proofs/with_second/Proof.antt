@@ -2,14 +2,14 @@ use denote.Ref.{now}
 use native.Mathlib.Omega.{arith}
 use Prim.Native.Nat.{ℕ}
 use lib.ListN.{length-replicate}
-use Rattle.regroup.proofs.Laws.{second-refused, second-accepted}
+use Rattle.regrouping.proofs.Laws.{second-refused, second-accepted}
 use borrow.Author.Needs.{needs}
-use Rattle.regroup.proofs.with_second.Statement.{statement}
-use Rattle.regroup.proofs.with_second.Tie as tie
-use Rattle.regroup.proofs.with_second.Reads as reads
-use Rattle.regroup.proofs.with_second.Lts as lts
+use Rattle.regrouping.proofs.with_second.Statement.{statement}
+use Rattle.regrouping.proofs.with_second.Tie as tie
+use Rattle.regrouping.proofs.with_second.Reads as reads
+use Rattle.regrouping.proofs.with_second.Lts as lts
 use Rattle.reader.proofs.outcome.Reads as outcome-reads
-use Rattle.regroup.proofs.listed.Reads as listed-reads
+use Rattle.regrouping.proofs.listed.Reads as listed-reads
 
 -- src/lib.rt:63:41
 slice-aggregate-outcome : tie.Need-slice-aggregate-outcome

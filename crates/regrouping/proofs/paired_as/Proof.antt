@@ -2,10 +2,10 @@ use mathlib.Core.Path.{sym, ap}
 use Rattle.paper.specs.Answers.{regrouping-of}
 use Rattle.moves.specs.Pairs.{answer-of}
 use borrow.Author.Needs.{needs}
-use Rattle.regroup.proofs.paired_as.Statement.{statement}
-use Rattle.regroup.proofs.paired_as.Tie as tie
-use Rattle.regroup.proofs.paired_as.Reads as reads
-use Rattle.regroup.proofs.paired_as.Lts as lts
+use Rattle.regrouping.proofs.paired_as.Statement.{statement}
+use Rattle.regrouping.proofs.paired_as.Tie as tie
+use Rattle.regrouping.proofs.paired_as.Reads as reads
+use Rattle.regrouping.proofs.paired_as.Lts as lts
 
 -- src/lib.rt:21:29
 enum-told : tie.Need-enum-told

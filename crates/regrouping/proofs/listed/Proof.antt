@@ -1,13 +1,13 @@
 use denote.Ref.{now}
-use Rattle.regroup.proofs.Laws.{numbers-differ, wrong-count, not-a-list, the-pairs, same-order}
+use Rattle.regrouping.proofs.Laws.{numbers-differ, wrong-count, not-a-list, the-pairs, same-order}
 use borrow.Author.Needs.{needs}
-use Rattle.regroup.proofs.listed.Statement.{statement}
-use Rattle.regroup.proofs.listed.Tie as tie
-use Rattle.regroup.proofs.listed.Reads as reads
-use Rattle.regroup.proofs.listed.Lts as lts
+use Rattle.regrouping.proofs.listed.Statement.{statement}
+use Rattle.regrouping.proofs.listed.Tie as tie
+use Rattle.regrouping.proofs.listed.Reads as reads
+use Rattle.regrouping.proofs.listed.Lts as lts
 use Rattle.moves.proofs.ordinals.Reads as ordinals-reads
 use Rattle.moves.proofs.pairing.Reads as pairing-reads
-use Rattle.regroup.proofs.paired_as.Reads as paired-as-reads
+use Rattle.regrouping.proofs.paired_as.Reads as paired-as-reads
 
 -- src/lib.rt:43:9
 returns : tie.Need-returns

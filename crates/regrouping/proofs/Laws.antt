@@ -13,9 +13,12 @@ use Rattle.paper.specs.Form.{Element}
 use Rattle.paper.specs.Rows.{rows}
 use Rattle.paper.specs.Payments.{Payment, payments, in-payment}
 use Rattle.paper.specs.Refusals.{refused-as, accepted-with, outcome-alone}
-use Rattle.paper.specs.Fields.{Value, values-of}
+use Rattle.paper.specs.Fields.{Value, values-of, field-part}
+use Rattle.paper.specs.Table.{Part, part-of}
+use Rattle.reader.specs.Answers.{HandsBack}
+use denote.Ref.{RefT}
 use Rattle.paper.specs.Accepted.{All}
-use Rattle.paper.specs.Regrouping.{Answer, answered, message-refused, ordinals-of, pairing, of-payments, all-values, of-outcomes, regrouping}
+use Rattle.paper.specs.Regrouping.{Answer, answered, message-refused, ordinals-of, pairing, of-payments, all-values, of-outcomes, regrouping, differing-part}
 use Rattle.paper.specs.Answers.{refusal-of, regrouping-of}
 use Rattle.paper.specs.declared.Fault.{Fault}
 use Rattle.paper.specs.declared.Verdict.{Verdict}
@@ -127,3 +130,44 @@ module _ (list : List ℕ) {s1 tree1 order1 s2 tree2 order2 : List ℕ} {root1 r
 
 pub same-order : {s tree order : List ℕ} {root : Element} {n m : ℕ} → InOrder s tree order m root → n ≡ m → InOrder s tree order n root
 same-order {s} {tree} {order} {root} i e = subst (λ (k : ℕ). InOrder s tree order k root) (sym e) i
+
+-- an answer that is not 20
+unfoldable pub NotTwenty : Regrouping → Type 0
+NotTwenty regroup.Accepted = Unit {0}
+NotTwenty (regroup.FirstRefused f) = Unit {0}
+NotTwenty (regroup.SecondRefused f) = Unit {0}
+NotTwenty regroup.NumbersOfPaymentsDiffer = Unit {0}
+NotTwenty regroup.ListNotOfTheForm = Unit {0}
+NotTwenty regroup.CountNotTheNumberOfPayments = Unit {0}
+NotTwenty (regroup.OrdinalTooLarge k) = Unit {0}
+NotTwenty (regroup.NamedBefore k) = Unit {0}
+NotTwenty (regroup.FieldsDiffer k f) = ⊥
+
+-- the differing part, by the answer
+module _ (first second list : List ℕ) {r : Regrouping} (is : regrouping-of r ≡ regrouping rows first second list) where
+  pub part-of-20 : {k field : ℕ} → r ≡ regroup.FieldsDiffer k field → differing-part rows first second list ≡ field-part rows (outcome-alone rows second) k field
+  unfolding differing-part regrouping-of
+  part-of-20 e = rw (sym is ∙ ap regrouping-of e, differing-part)
+
+  pub no-part : {answer : Regrouping} → r ≡ answer → NotTwenty answer → differing-part rows first second list ≡ part-of none
+  unfolding differing-part regrouping-of NotTwenty
+  no-part {answer} e n = go answer e n
+    where
+      go : (a : Regrouping) → r ≡ a → NotTwenty a → differing-part rows first second list ≡ part-of none
+      go regroup.Accepted e n = rw (sym is ∙ ap regrouping-of e, differing-part)
+      go (regroup.FirstRefused f) e n = rw (sym is ∙ ap regrouping-of e, differing-part)
+      go (regroup.SecondRefused f) e n = rw (sym is ∙ ap regrouping-of e, differing-part)
+      go regroup.NumbersOfPaymentsDiffer e n = rw (sym is ∙ ap regrouping-of e, differing-part)
+      go regroup.ListNotOfTheForm e n = rw (sym is ∙ ap regrouping-of e, differing-part)
+      go regroup.CountNotTheNumberOfPayments e n = rw (sym is ∙ ap regrouping-of e, differing-part)
+      go (regroup.OrdinalTooLarge k) e n = rw (sym is ∙ ap regrouping-of e, differing-part)
+      go (regroup.NamedBefore k) e n = rw (sym is ∙ ap regrouping-of e, differing-part)
+      go (regroup.FieldsDiffer k f) e n = absurd n
+
+-- the empty part at 0
+pub empty-part : {m h : RefT (List ℕ)} {p : Part} → p ≡ part-of none → HandsBack m h (record { start = 0; size = 0 }) → HandsBack m h p
+unfolding part-of
+empty-part e h = rw e h
+
+pub that-part : {m h : RefT (List ℕ)} {p q : Part} → p ≡ q → HandsBack m h q → HandsBack m h p
+that-part e h = rw e h

@@ -2,14 +2,14 @@ use denote.Ref.{now}
 use native.Mathlib.Omega.{arith}
 use Prim.Native.Nat.{ℕ}
 use lib.ListN.{length-replicate}
-use Rattle.regroup.proofs.Laws.{first-refused, first-accepted}
+use Rattle.regrouping.proofs.Laws.{first-refused, first-accepted}
 use borrow.Author.Needs.{needs}
-use Rattle.regroup.proofs.regroup.Statement.{statement}
-use Rattle.regroup.proofs.regroup.Tie as tie
-use Rattle.regroup.proofs.regroup.Reads as reads
-use Rattle.regroup.proofs.regroup.Lts as lts
+use Rattle.regrouping.proofs.regroup.Statement.{statement}
+use Rattle.regrouping.proofs.regroup.Tie as tie
+use Rattle.regrouping.proofs.regroup.Reads as reads
+use Rattle.regrouping.proofs.regroup.Lts as lts
 use Rattle.reader.proofs.outcome.Reads as outcome-reads
-use Rattle.regroup.proofs.with_second.Reads as with-second-reads
+use Rattle.regrouping.proofs.with_second.Reads as with-second-reads
 
 -- src/lib.rt:78:40
 slice-aggregate-outcome : tie.Need-slice-aggregate-outcome

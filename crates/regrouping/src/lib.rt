@@ -106,3 +106,21 @@ pub fn regroup(first: &[u8], second: &[u8], list: &[u8]) -> Regrouping
         } => with_second(first, &tree1, &order1, payments, second, list),
     }
 }
+
+// For 20 the text of the differing field as the second message has it, a part of the second message; otherwise the empty part at 0 of the second.
+pub fn differing<'a>(first: &[u8], second: &'a [u8], list: &[u8]) -> &'a [u8]
+    ensures { λ r. ⌜ HandsBack (second .entry) r (differing-part rows (now (first .entry)) (now (second .entry)) (now (list .entry))) ⌝ }
+{
+    let answer = regroup(first, second, list);
+    match answer {
+        Regrouping::FieldsDiffer { k, field } => reader::field(second, k, field),
+        Regrouping::Accepted => &second[0..0],
+        Regrouping::FirstRefused(_) => &second[0..0],
+        Regrouping::SecondRefused(_) => &second[0..0],
+        Regrouping::NumbersOfPaymentsDiffer => &second[0..0],
+        Regrouping::ListNotOfTheForm => &second[0..0],
+        Regrouping::CountNotTheNumberOfPayments => &second[0..0],
+        Regrouping::OrdinalTooLarge { k: _ } => &second[0..0],
+        Regrouping::NamedBefore { k: _ } => &second[0..0],
+    }
+}
