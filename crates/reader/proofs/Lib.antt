@@ -4,3 +4,4 @@ pub mod Fits
 pub mod InTurn
 pub mod Verdicts
 pub mod Parts
+pub mod Agreement
