@@ -1,14 +1,17 @@
 -- An answer is known by the paper's numbers for it: two answers with the same numbers are the same.
 use Prim.Native.Nat.{ℕ}
+use mathlib.Core.Option.{Option, none, some}
 use mathlib.Core.Path.{_≡_, refl, sym, ap, _∙_}
 use lib.Dec.{eqb}
 use Rattle.paper.specs.Bytes.{if_then_else_}
-use Rattle.paper.specs.Refusals.{Answer, refused, accepted}
+use Rattle.paper.specs.Refusals.{Refusal, Answer, refused, accepted}
 use Rattle.paper.specs.Regrouping.{message-refused, answered}
 use Rattle.paper.specs.Regrouping as moves
-use Rattle.paper.specs.Answers.{numbered, refusal-of, answer-of, regrouping-of}
+use Rattle.paper.specs.Answers.{numbered, refusal-of, refusal-found, answer-of, regrouping-of}
 use Rattle.paper.specs.declared.Fault.{Fault}
 use Rattle.paper.specs.declared.Fault.the-variants.{TableTooShort, MessageTooLong, NotOfTheForm, NotAllowedThere, Missing, TooMany, EmptyOrTooLong, CharacterNotInTheSet, ValueNotAllowed, InPaymentAndBlock, InNeither, BlockIdRepeated, TotalTooLarge, CountDiffers, SumDiffers}
+use Rattle.paper.specs.declared.Finding.{Finding}
+use Rattle.paper.specs.declared.Finding.the-variants as finding
 use Rattle.paper.specs.declared.Verdict.{Verdict}
 use Rattle.paper.specs.declared.Verdict.the-variants.{Accepted, Refused}
 use Rattle.paper.specs.declared.Regrouping.{Regrouping}
@@ -49,6 +52,18 @@ fault-again (BlockIdRepeated offset) = refl
 fault-again (TotalTooLarge offset) = refl
 fault-again (CountDiffers element offset) = refl
 fault-again (SumDiffers element offset) = refl
+
+finding-by : Option Refusal → Finding
+finding-by none = finding.Nothing
+finding-by (some r) = finding.Refused (fault-by (r .number) (r .element) (r .offset))
+
+finding-again : (f : Finding) → finding-by (refusal-found f) ≡ f
+unfolding finding-by refusal-found
+finding-again finding.Nothing = refl
+finding-again (finding.Refused fault) = ap finding.Refused (fault-again fault)
+
+pub one-finding : (f g : Finding) → refusal-found f ≡ refusal-found g → f ≡ g
+one-finding f g e = sym (finding-again f) ∙ ap finding-by e ∙ finding-again g
 
 verdict-by : Answer → Verdict
 verdict-by (accepted blocks payments cents) = Accepted blocks payments cents
