@@ -1,4 +1,4 @@
-// Runs the verdict and the regrouping over what the source documents print, and writes a line for each example. The four files of cases: a case is `V`
+// Runs the verdict and the regrouping over what the source documents print, and over M1 to M3, and writes a line for each example. In the four files a case is `V`
 // with name and message, or `R` with name, first, second and list, and a line feed; each part is its length in decimal, a `:`, its bytes and a `,`.
 use paper::Regrouping;
 use paper::Verdict;

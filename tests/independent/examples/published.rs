@@ -65,7 +65,7 @@ fn main() -> std::io::Result<()> {
         std::fs::write(data.join(file), cases)?;
     }
     let mut cases = Vec::new();
-    for Regrouping { name, first, second, list, .. } in regroupings() {
+    for Regrouping { name, first, second, list, .. } in all_regroupings() {
         cases.extend(case("R", &[name.as_bytes(), first.as_bytes(), second.as_bytes(), &list]));
         stdout += &format!("{name}: {}\n", regroup_line(&first, &second, &list));
     }

@@ -135,8 +135,8 @@ fn whole_messages_and_snippets() {
 }
 
 #[test]
-fn examples_6_1_and_6_2_regrouped() {
-    for Regrouping { name, first, second, list, wanted } in regroupings() {
+fn examples_and_m1_regrouped() {
+    for Regrouping { name, first, second, list, wanted } in all_regroupings() {
         assert_eq!(regroup(first.as_bytes(), second.as_bytes(), &list), wanted, "{name}");
     }
 }

@@ -3,7 +3,7 @@
 //! writes them for the crate `published`.
 
 use super::*;
-use independent::Regroup;
+use independent::{Refusal, Regroup};
 
 pub struct Example {
     pub name: String,
@@ -11,6 +11,7 @@ pub struct Example {
     pub wanted: Verdict,
 }
 
+#[derive(Clone)]
 pub struct Regrouping {
     pub name: String,
     pub first: String,
@@ -191,8 +192,12 @@ fn last(examples: Vec<Example>) -> String {
     examples.into_iter().last().expect("an example").message
 }
 
+pub fn all_regroupings() -> Vec<Regrouping> {
+    [regroupings(), regroupings_of_m1()].concat()
+}
+
 /// The repaired 6.1 regrouped to the repaired 6.2.
-pub fn regroupings() -> Vec<Regrouping> {
+fn regroupings() -> Vec<Regrouping> {
     let (first, second) = (last(example_6_1()), last(example_6_2()));
     let booked = with(&first, "<BtchBookg>false", "<BtchBookg>true");
     let differs = |field| Regroup::Refused { number: 20, k: 0, field };
@@ -207,6 +212,42 @@ pub fn regroupings() -> Vec<Regrouping> {
         regrouping(" by 0, 1", &first, &[0, 1], differs(1)),
         regrouping(", batch booking equal, by 0, 1", &booked, &[0, 1], Regroup::Accepted),
         regrouping(", batch booking equal, by 1, 0", &booked, &[1, 0], differs(10)),
+    ]
+}
+
+/// M1 regrouped to M2, to M3 and to itself: each refusal of a regrouping.
+fn regroupings_of_m1() -> Vec<Regrouping> {
+    let (m2, m3, wrong) = (m2(), m3(), m1("<NbOfTxs>2", "<NbOfTxs>3"));
+    let payment = format!("{}\n", payments_of_m1()[1]);
+    let fewer = with(&m1(&payment, "").replace("<NbOfTxs>2", "<NbOfTxs>1"), "35.10", "12.5");
+    let fewer = with(&fewer, "35.1", "12.5");
+    let longer = [list(&[0, 1]), vec![0]].concat();
+    let refused = |number, k, field| Regroup::Refused { number, k, field };
+    let message = |whose| Regroup::Message {
+        whose,
+        refusal: Refusal { number: 12, element: 6, offset: 147 },
+    };
+    let regrouping = |name: &str, first: &str, second: &str, list: &[u8], wanted| Regrouping {
+        name: name.to_string(),
+        first: first.to_string(),
+        second: second.to_string(),
+        list: list.to_vec(),
+        wanted,
+    };
+    vec![
+        regrouping("M1 to M2 by 1, 0", M1, &m2, &list(&[1, 0]), Regroup::Accepted),
+        regrouping("M1 to M2 by 0, 1", M1, &m2, &list(&[0, 1]), refused(20, 0, 10)),
+        regrouping("M1 to M3 by 0, 1", M1, &m3, &list(&[0, 1]), refused(20, 1, 8)),
+        regrouping("M1 to M3 by 1, 2", M1, &m3, &list(&[1, 2]), refused(20, 0, 10)),
+        regrouping("M1 to M1 by 0, 2", M1, M1, &list(&[0, 2]), refused(18, 1, 0)),
+        regrouping("M1 to M1 by 0, 0", M1, M1, &list(&[0, 0]), refused(19, 1, 0)),
+        regrouping("M1 to M1 by 0", M1, M1, &list(&[0]), refused(17, 0, 0)),
+        regrouping("M1 to M1 by 0, 1 and a byte", M1, M1, &longer, refused(16, 0, 0)),
+        regrouping("M1 to M1 by no bytes", M1, M1, &[], refused(16, 0, 0)),
+        regrouping("M1 to one payment by 0", M1, &fewer, &list(&[0]), refused(15, 0, 0)),
+        regrouping("a wrong count to M1", &wrong, M1, &[], message(1)),
+        regrouping("M1 to a wrong count", M1, &wrong, &[], message(2)),
+        regrouping("a wrong count to a wrong count", &wrong, &wrong, &[], message(1)),
     ]
 }
 
