@@ -4,7 +4,7 @@ use mathlib.Core.Option.{Option, none, some}
 use mathlib.Core.Path.{_≡_, refl, sym, ap, _∙_}
 use lib.Dec.{eqb}
 use Rattle.paper.specs.Bytes.{if_then_else_}
-use Rattle.paper.specs.Refusals.{Refusal, Answer, refused, accepted}
+use Rattle.paper.specs.Refusals.{Refusal, Answer, refused, accepted, Returned}
 use Rattle.paper.specs.Regrouping.{message-refused, answered}
 use Rattle.paper.specs.Regrouping as moves
 use Rattle.paper.specs.Answers.{numbered, refusal-of, refusal-found, answer-of, regrouping-of}
@@ -16,6 +16,9 @@ use Rattle.paper.specs.declared.Verdict.{Verdict}
 use Rattle.paper.specs.declared.Verdict.the-variants.{Accepted, Refused}
 use Rattle.paper.specs.declared.Regrouping.{Regrouping}
 use Rattle.paper.specs.declared.Regrouping.the-variants as regrouping
+use Rattle.answers.specs.Numbers.{as-returned, as-regrouping-returned}
+use Rattle.answers.specs.declared.OfMessage.{OfMessage}
+use Rattle.answers.specs.declared.OfRegrouping.{OfRegrouping}
 
 -- a fault is known by its refusal's number, element and offset
 fault-by : (number element offset : ℕ) → Fault
@@ -103,3 +106,20 @@ regrouping-again (regrouping.FieldsDiffer k field) = refl
 
 pub one-regrouping : (r q : Regrouping) → regrouping-of r ≡ regrouping-of q → r ≡ q
 one-regrouping r q e = sym (regrouping-again r) ∙ ap regrouping-by e ∙ regrouping-again q
+
+-- what is returned is known by its six numbers
+message-by : Returned → OfMessage
+message-by p =
+    record { number = p .number; element = p .element; offset = p .offset; blocks = p .blocks; payments = p .payments; cents = p .cents }
+
+pub one-returned : (r q : OfMessage) → as-returned r ≡ as-returned q → r ≡ q
+unfolding message-by as-returned
+one-returned r q e = ap message-by e
+
+returned-by : moves.Returned → OfRegrouping
+returned-by p =
+    record { whose = p .whose; number = p .number; element = p .element; offset = p .offset; k = p .k; field = p .field }
+
+pub one-regrouping-returned : (r q : OfRegrouping) → as-regrouping-returned r ≡ as-regrouping-returned q → r ≡ q
+unfolding returned-by as-regrouping-returned
+one-regrouping-returned r q e = ap returned-by e

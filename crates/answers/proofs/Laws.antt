@@ -1,11 +1,37 @@
--- The numbers of a fault, once its case is known.
+-- The numbers of an answer, once its case is known.
 use Prim.Native.Nat.{ℕ}
 use mathlib.Core.Path.{_≡_, refl, sym, ap, _∙_}
-use Rattle.paper.specs.Answers.{refusal-of, numbered}
+use Rattle.paper.specs.Refusals.{returned}
+use Rattle.paper.specs.Regrouping.{Returned, message-refused}
+use Rattle.paper.specs.Regrouping as moves
+use Rattle.paper.specs.Answers.{refusal-of, numbered, answer-of, regrouping-of}
 use Rattle.paper.specs.declared.Fault.{Fault}
+use Rattle.paper.specs.declared.Verdict.{Verdict}
+use Rattle.paper.specs.declared.Verdict.the-variants.{Accepted, Refused}
+use Rattle.paper.specs.declared.Regrouping.{Regrouping}
 use Rattle.answers.specs.Numbers.{Numbers}
 use Rattle.answers.specs.declared.Refusal.{Refusal}
 
 pub numbers : {f g : Fault} {n e o : ℕ} {r : Refusal} → f ≡ g → r ≡ record { number = n; element = e; offset = o } → refusal-of g ≡ numbered n e o → Numbers (refusal-of f) r
 unfolding numbered
 numbers p q s = rw (p, s, q) (record { number-is = refl; element-is = refl; offset-is = refl })
+
+-- what is returned of a message and of a regrouping, once the case is known
+module _ (f : Fault) {r : Refusal} (n : Numbers (refusal-of f) r) where
+  pub message-returned : {v : Verdict} → v ≡ Refused f
+      → record { number = r .number; element = r .element; offset = r .offset; blocks = 0; payments = 0; cents = 0 } ≡ returned (answer-of v)
+  unfolding returned answer-of
+  message-returned e = rw (e, n .number-is, n .element-is, n .offset-is)
+
+  pub whose-returned : (whose : ℕ)
+      → record { whose = whose; number = r .number; element = r .element; offset = r .offset; k = 0; field = 0 } ≡ moves.returned (message-refused whose (refusal-of f))
+  unfolding moves.returned
+  whose-returned whose = rw (n .number-is, n .element-is, n .offset-is)
+
+pub accepted-returned : {v : Verdict} {blocks payments cents : ℕ} → v ≡ Accepted blocks payments cents
+    → record { number = 0; element = 0; offset = 0; blocks = blocks; payments = payments; cents = cents } ≡ returned (answer-of v)
+unfolding returned answer-of
+accepted-returned e = rw e
+
+pub as-answered : {r q : Regrouping} {a b : Returned} → r ≡ q → a ≡ b → moves.returned (regrouping-of q) ≡ b → a ≡ moves.returned (regrouping-of r)
+as-answered e f g = rw (e, g) f

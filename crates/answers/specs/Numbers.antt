@@ -1,10 +1,21 @@
--- A refusal's three numbers, as the code has them.
+-- The paper's numbers, as the code has them.
 use Prim.Native.Nat.{ℕ}
 use mathlib.Core.Path.{_≡_}
-use Rattle.paper.specs.Refusals.{Refusal as PaperRefusal}
+use Rattle.paper.specs.Refusals.{Refusal as PaperRefusal, Returned}
+use Rattle.paper.specs.Regrouping.{Returned as RegroupingReturned}
 use Rattle.answers.specs.declared.Refusal.{Refusal}
+use Rattle.answers.specs.declared.OfMessage.{OfMessage}
+use Rattle.answers.specs.declared.OfRegrouping.{OfRegrouping}
 
 pub record Numbers (p : PaperRefusal) (r : Refusal) : Type 0 where
   pub number-is : r .number ≡ p .number
   pub element-is : r .element ≡ p .element
   pub offset-is : r .offset ≡ p .offset
+
+unfoldable pub as-returned : OfMessage → Returned
+as-returned r =
+    record { number = r .number; element = r .element; offset = r .offset; blocks = r .blocks; payments = r .payments; cents = r .cents }
+
+unfoldable pub as-regrouping-returned : OfRegrouping → RegroupingReturned
+as-regrouping-returned r =
+    record { whose = r .whose; number = r .number; element = r .element; offset = r .offset; k = r .k; field = r .field }

@@ -1,8 +1,12 @@
-// A fault as document 01's number, element and offset.
+// The answers as document 01's numbers.
 use paper::Fault;
+use paper::Regrouping;
+use paper::Verdict;
 ghost use mathlib.Core.Path.{_≡_};
-ghost use Rattle.paper.specs.Answers.{refusal-of};
-ghost use Rattle.answers.specs.Numbers.{Numbers};
+ghost use Rattle.paper.specs.Refusals.{returned};
+ghost use Rattle.paper.specs.Regrouping.{returned as regrouping-returned, message-refused, answered};
+ghost use Rattle.paper.specs.Answers.{refusal-of, answer-of, regrouping-of};
+ghost use Rattle.answers.specs.Numbers.{Numbers, as-returned, as-regrouping-returned};
 
 pub struct Refusal {
     pub number: usize,
@@ -39,5 +43,101 @@ pub fn refusal_of(fault: Fault) -> Refusal
         Fault::TotalTooLarge { offset } => at(21, 7, offset),
         Fault::CountDiffers { element, offset } => at(12, element, offset),
         Fault::SumDiffers { element, offset } => at(13, element, offset),
+    }
+}
+
+// What is returned of a message.
+#[repr(C)]
+pub struct OfMessage {
+    pub number: u64,
+    pub element: u64,
+    pub offset: u64,
+    pub blocks: u64,
+    pub payments: u64,
+    pub cents: u64,
+}
+
+pub fn of_message(verdict: Verdict) -> OfMessage
+    ensures { λ r. ⌜ as-returned r ≡ returned (answer-of verdict) ⌝ }
+{
+    match verdict {
+        Verdict::Accepted {
+            blocks,
+            payments,
+            cents,
+        } => OfMessage {
+            number: 0,
+            element: 0,
+            offset: 0,
+            blocks: blocks as u64,
+            payments: payments as u64,
+            cents,
+        },
+        Verdict::Refused(fault) => {
+            let refusal = refusal_of(fault);
+            OfMessage {
+                number: refusal.number as u64,
+                element: refusal.element as u64,
+                offset: refusal.offset as u64,
+                blocks: 0,
+                payments: 0,
+                cents: 0,
+            }
+        }
+    }
+}
+
+// What is returned of a regrouping.
+#[repr(C)]
+pub struct OfRegrouping {
+    pub whose: u64,
+    pub number: u64,
+    pub element: u64,
+    pub offset: u64,
+    pub k: u64,
+    pub field: u64,
+}
+
+// A message's own refusal.
+fn refused_of(whose: u64, fault: Fault) -> OfRegrouping
+    ensures { λ r. ⌜ as-regrouping-returned r ≡ regrouping-returned (message-refused whose (refusal-of fault)) ⌝ }
+{
+    let refusal = refusal_of(fault);
+    OfRegrouping {
+        whose,
+        number: refusal.number as u64,
+        element: refusal.element as u64,
+        offset: refusal.offset as u64,
+        k: 0,
+        field: 0,
+    }
+}
+
+fn answered(number: u64, k: usize, field: usize) -> OfRegrouping
+    ensures { λ r. ⌜ as-regrouping-returned r ≡ regrouping-returned (answered number k field) ⌝ }
+{
+    OfRegrouping {
+        whose: 0,
+        number,
+        element: 0,
+        offset: 0,
+        k: k as u64,
+        field: field as u64,
+    }
+}
+
+pub fn of_regrouping(answer: Regrouping) -> OfRegrouping
+    ensures { λ r. ⌜ as-regrouping-returned r ≡ regrouping-returned (regrouping-of answer) ⌝ }
+{
+    match answer {
+        Regrouping::Accepted => answered(0, 0, 0),
+        Regrouping::FirstRefused(fault) => refused_of(1, fault),
+        Regrouping::SecondRefused(fault) => refused_of(2, fault),
+        Regrouping::NumbersOfPaymentsDiffer => answered(15, 0, 0),
+        Regrouping::ListNotOfTheForm => answered(16, 0, 0),
+        Regrouping::CountNotTheNumberOfPayments => answered(17, 0, 0),
+        Regrouping::OrdinalTooLarge { k } => answered(18, k, 0),
+        Regrouping::NamedBefore { k } => answered(19, k, 0),
+        Regrouping::FieldsDiffer { k, field } => answered(20, k, field),
     }
 }

@@ -1,71 +1,10 @@
 // Runs `form::form_of` over each case of the file `cases` and over each beginning of it, and writes what was found.
-// A case is a name and a text, each written as its length in decimal, a `:`, its bytes and a `,`; a line feed follows the two.
+// A case is a name and a text, as parts, and a line feed.
 // What it must write, `stdout`, was worked out from document 01 and not by a run.
 use form::Form;
 use libc::STDOUT_FILENO;
 ghost use Prim.Native.Nat.{_≤_};
 ghost use lib.ListN.{length};
-
-// Where the bytes of a name or a text stand in the file.
-struct Part {
-    start: usize,
-    end: usize,
-}
-
-fn digits_end(s: &[u8], at: usize) -> usize
-    ensures { λ r. ⌜ r ≤ length (now (s .entry)) ⌝ }
-{
-    let mut i = at;
-    while i < s.len() {
-        if s[i] < b'0' {
-            return i;
-        }
-        if s[i] > b'9' {
-            return i;
-        }
-        i += 1;
-    }
-    s.len()
-}
-
-fn wide(b: u8) -> usize
-    ensures { λ r. ⌜ r ≤ 255 ⌝ }
-{
-    b as usize
-}
-
-// The number of the bytes from an offset to an offset, or one above 10000 where it is too large.
-fn number(s: &[u8], at: usize, end: usize) -> usize
-    requires { ⌜ end ≤ length (now s) ⌝ }
-    ensures { λ r. ⌜ r ≤ 200000 ⌝ }
-{
-    let mut n = 0;
-    let mut i = at;
-    while i < end {
-        if n > 10000 {
-            return n;
-        }
-        n = n * 10 + wide(s[i] & 15);
-        i += 1;
-    }
-    n
-}
-
-// The part whose length begins at an offset; the empty part at the end of the file where none does.
-fn part_at(s: &[u8], at: usize) -> Part
-    ensures { λ r. ⌜ (r .start ≤ r .end) × (r .end ≤ length (now (s .entry))) ⌝ }
-{
-    let colon = digits_end(s, at);
-    let start = colon + 1;
-    let end = start + number(s, at, colon);
-    if end > s.len() {
-        return Part {
-            start: s.len(),
-            end: s.len(),
-        };
-    }
-    Part { start, end }
-}
 
 // 1 if a text is refused because it ends too early, otherwise 0.
 fn ends_early(s: &[u8]) -> usize
@@ -108,10 +47,10 @@ fn show(name: &[u8], s: &[u8]) {
 
 // The case at an offset. Answers the offset of the next.
 fn case_at(s: &[u8], at: usize) -> usize {
-    let name = part_at(s, at);
+    let name = parts::part_at(s, at);
     let a = name.start;
     let b = name.end;
-    let text = part_at(s, b + 1);
+    let text = parts::part_at(s, b + 1);
     let c = text.start;
     let d = text.end;
     show(&s[a..b], &s[c..d]);

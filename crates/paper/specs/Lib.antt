@@ -11,4 +11,5 @@ pub mod Accepted
 pub mod Table
 pub mod Fields
 pub mod Regrouping
+pub mod Host
 pub mod Answers

@@ -51,6 +51,19 @@ pub data Answer : Type 0 where
   message-refused : (whose : ℕ) → Refusal → Answer
   answered : (number k field : ℕ) → Answer
 
+-- The same as six numbers, those that an answer does not have 0.
+pub record Returned : Type 0 where
+  pub whose : ℕ
+  pub number : ℕ
+  pub element : ℕ
+  pub offset : ℕ
+  pub k : ℕ
+  pub field : ℕ
+
+unfoldable pub returned : Answer → Returned
+returned (message-refused whose r) = record { whose = whose; number = r .number; element = r .element; offset = r .offset; k = 0; field = 0 }
+returned (answered number k field) = record { whose = 0; number = number; element = 0; offset = 0; k = k; field = field }
+
 -- For each k: 18 ordinal too large, 19 named before, 20 fields differ. (There are as many ordinals as payments: 15 and 17 came first.)
 unfoldable pub pairing : (first : List (List Value)) (k : ℕ) (named : List ℕ) (ordinals : List ℕ) (second : List (List Value)) → Answer
 pairing first k named [] second = answered 0 0 0

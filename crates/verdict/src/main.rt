@@ -1,7 +1,6 @@
 // The verdict on the message on standard input: one line, and where it is accepted one more for each payment: ordinal, block, debtor IBAN, creditor IBAN, cents
 // and end-to-end id.
 use libc::STDIN_FILENO;
-use paper::Verdict;
 
 fn wide(x: u32) -> u64 {
     x as u64
@@ -58,14 +57,7 @@ fn payment(message: &[u8], table: &[u32], i: usize) {
     printing::text(b"\n");
 }
 
-fn accepted(message: &[u8], table: &[u32], blocks: usize, payments: usize, cents: u64) {
-    printing::text(b"ACCEPTED blocks=");
-    printing::number(blocks as u64);
-    printing::text(b" payments=");
-    printing::number(payments as u64);
-    printing::text(b" cents=");
-    printing::number(cents);
-    printing::text(b"\n");
+fn each_payment(message: &[u8], table: &[u32], payments: usize) {
     let mut i = 0;
     while i < payments {
         payment(message, table, i);
@@ -74,15 +66,10 @@ fn accepted(message: &[u8], table: &[u32], blocks: usize, payments: usize, cents
 }
 
 fn report(message: &[u8], table: &mut [u32]) {
-    let verdict = reader::verdict(message, table);
-    match verdict {
-        Verdict::Refused(fault) => printing::refused(fault),
-        Verdict::Accepted {
-            blocks,
-            payments,
-            cents,
-        } => accepted(message, table, blocks, payments, cents),
-    }
+    let answer = answers::of_message(reader::verdict(message, table));
+    let payments = answer.payments as usize;
+    printing::message(answer);
+    each_payment(message, table, payments);
 }
 
 fn main() {

@@ -1,9 +1,9 @@
--- `form_run::digits_end` is safe, ends, and stays within the file.
+-- `published::digits_end` is safe, ends, and stays within the file.
 use borrow.Author.Needs.{needs}
 use Prim.Native.Nat.{_-_}
 use lib.ListN.{length}
-use Rattle.form_run.proofs.digits_end.Statement.{statement}
-use Rattle.form_run.proofs.digits_end.Tie as tie
+use Rattle.parts.proofs.digits_end.Statement.{statement}
+use Rattle.parts.proofs.digits_end.Tie as tie
 
 abbrev Inv-loop : tie.InvT-loop
 Inv-loop s at i₀ i = Unit {0}

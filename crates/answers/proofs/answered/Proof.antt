@@ -1,0 +1,15 @@
+use mathlib.Core.Path.{refl}
+use Rattle.paper.specs.Regrouping.{returned}
+use Rattle.answers.specs.Numbers.{as-regrouping-returned}
+use Rattle.answers.proofs.answered.Statement.{statement}
+use Rattle.answers.proofs.answered.Tie as tie
+use Rattle.answers.proofs.answered.Reads as reads
+use Rattle.answers.proofs.answered.Lts as lts
+
+-- src/lib.rt:116:1
+returns : tie.Need-returns
+unfolding as-regrouping-returned returned
+returns c = refl
+
+pub answered-spec : {M : Type 1} → statement M
+answered-spec = tie.close (tie.spec returns)

@@ -1,0 +1,106 @@
+-- The contracts of the two functions for the payment host determine their answers, and follow from the reader's and the regrouping's.
+use Prim.Native.Nat.{ℕ, zero, suc, _+_, _*_, _/_, _%_, _≤_}
+use native.Mathlib.Omega.{arith}
+use mathlib.Core.List.{List, [], _∷_, _++_}
+use mathlib.Core.Path.{_≡_, refl, sym, ap, _∙_}
+use lib.ListN.{length, drop}
+use Rattle.paper.specs.Form.{Element}
+use Rattle.paper.specs.Rows.{rows}
+use Rattle.paper.specs.Payments.{payments}
+use Rattle.paper.specs.Refusals.{Outcome, refused-as, accepted-with}
+use Rattle.paper.specs.Regrouping.{regrouping, returned}
+use Rattle.paper.specs.Table.{numbers-of-a-payment, all-numbers, table-after}
+use Rattle.paper.specs.Host.{four-bytes, all-four-bytes, numbers-held, bytes-after}
+use Rattle.answers.specs.Numbers.{as-regrouping-returned}
+use Rattle.answers.specs.declared.OfMessage.{OfMessage}
+use Rattle.answers.specs.declared.OfRegrouping.{OfRegrouping}
+use Rattle.answers.proofs.Agreement.{one-returned, one-regrouping-returned}
+use Rattle.host.specs.Answers.{Answers}
+
+-- two answers that meet the contract of `glowenzo_verdict`, and what they leave in the table, are the same
+pub verdicts-agree : {message before after other : List ℕ} (r q : OfMessage) → Answers message before r after → Answers message before q other → r ≡ q
+verdicts-agree r q a b = one-returned r q (a .answer-is ∙ sym (b .answer-is))
+
+pub bytes-agree : {message before after other : List ℕ} {r q : OfMessage} → Answers message before r after → Answers message before q other → after ≡ other
+bytes-agree a b = a .table-is ∙ sym (b .table-is)
+
+-- two answers that meet the contract of `glowenzo_regroup` are the same
+pub regroupings-agree : (first second list : List ℕ) (r q : OfRegrouping) → as-regrouping-returned r ≡ returned (regrouping rows first second list)
+    → as-regrouping-returned q ≡ returned (regrouping rows first second list) → r ≡ q
+regroupings-agree first second list r q a b = one-regrouping-returned r q (a ∙ sym b)
+
+-- The numbers that bytes make, and the one to three bytes that are left.
+unfoldable pub numbers-32 : List ℕ → List ℕ
+numbers-32 [] = []
+numbers-32 (a ∷ []) = []
+numbers-32 (a ∷ b ∷ []) = []
+numbers-32 (a ∷ b ∷ c ∷ []) = []
+numbers-32 (a ∷ b ∷ c ∷ d ∷ s) = (((a * 256 + b) * 256 + c) * 256 + d) ∷ numbers-32 s
+
+unfoldable pub left-over : List ℕ → List ℕ
+left-over [] = []
+left-over (a ∷ []) = a ∷ []
+left-over (a ∷ b ∷ []) = a ∷ b ∷ []
+left-over (a ∷ b ∷ c ∷ []) = a ∷ b ∷ c ∷ []
+left-over (a ∷ b ∷ c ∷ d ∷ s) = left-over s
+
+again : (n : ℕ) → ((n / 16777216 * 256 + n / 65536 % 256) * 256 + n / 256 % 256) * 256 + n % 256 ≡ n
+again n = omega arith
+
+numbers-again : (ns s : List ℕ) → numbers-32 (all-four-bytes ns ++ s) ≡ ns ++ numbers-32 s
+unfolding numbers-32 all-four-bytes four-bytes
+numbers-again [] s = refl
+numbers-again (n ∷ ns) s = rw (again n, numbers-again ns s)
+
+left-again : (ns s : List ℕ) → left-over (all-four-bytes ns ++ s) ≡ left-over s
+unfolding left-over all-four-bytes four-bytes
+left-again [] s = refl
+left-again (n ∷ ns) s = left-again ns s
+
+-- the numbers behind the first so many, and what is left behind them
+four-more : (k : ℕ) → 4 * suc k ≡ suc (suc (suc (suc (4 * k))))
+four-more k = omega arith
+
+numbers-drop : (k : ℕ) (s : List ℕ) → numbers-32 (drop (4 * k) s) ≡ drop k (numbers-32 s)
+unfolding numbers-32
+numbers-drop zero s = refl
+numbers-drop (suc k) [] = rw (four-more k) refl
+numbers-drop (suc k) (a ∷ []) = rw (four-more k) refl
+numbers-drop (suc k) (a ∷ b ∷ []) = rw (four-more k) refl
+numbers-drop (suc k) (a ∷ b ∷ c ∷ []) = rw (four-more k) refl
+numbers-drop (suc k) (a ∷ b ∷ c ∷ d ∷ s) = rw (four-more k) (numbers-drop k s)
+
+left-drop : (k : ℕ) (s : List ℕ) → 4 * k ≤ length s → left-over (drop (4 * k) s) ≡ left-over s
+unfolding left-over
+left-drop zero s h = refl
+left-drop (suc k) [] h = absurd (omega (arith, h))
+left-drop (suc k) (a ∷ []) h = absurd (omega (arith, h))
+left-drop (suc k) (a ∷ b ∷ []) h = absurd (omega (arith, h))
+left-drop (suc k) (a ∷ b ∷ c ∷ []) h = absurd (omega (arith, h))
+left-drop (suc k) (a ∷ b ∷ c ∷ d ∷ s) h = rw (four-more k) (left-drop k s (omega (arith, h)))
+
+pub held-are : (s : List ℕ) → length (numbers-32 s) ≡ numbers-held s
+unfolding numbers-32 numbers-held
+held-are [] = refl
+held-are (a ∷ []) = refl
+held-are (a ∷ b ∷ []) = refl
+held-are (a ∷ b ∷ c ∷ []) = refl
+held-are (a ∷ b ∷ c ∷ d ∷ s) = omega (arith, held-are s)
+
+-- The table afterwards, read as numbers, is the reader's.
+pub as-the-reader : (o : Outcome) (old : List ℕ) → numbers-32 (bytes-after rows o old) ≡ table-after rows o (numbers-32 old)
+unfolding bytes-after table-after
+as-the-reader (refused-as r) old = refl
+as-the-reader (accepted-with root) old =
+    let ns = all-numbers rows (payments rows root) in
+    let k = numbers-of-a-payment * length (payments rows root) in
+    numbers-again ns (drop (4 * k) old) ∙ ap (λ (l : List ℕ). ns ++ l) (numbers-drop k old)
+
+-- The bytes that make no number stay.
+pub left-stays : (o : Outcome) (old : List ℕ) → ((root : Element) → o ≡ accepted-with root → 4 * (numbers-of-a-payment * length (payments rows root)) ≤ length old)
+    → left-over (bytes-after rows o old) ≡ left-over old
+unfolding bytes-after
+left-stays (refused-as r) old h = refl
+left-stays (accepted-with root) old h =
+    let k = numbers-of-a-payment * length (payments rows root) in
+    left-again (all-numbers rows (payments rows root)) (drop (4 * k) old) ∙ left-drop k old (h root refl)

@@ -1,0 +1,24 @@
+use mathlib.Core.Path.{_∙_, ap}
+use Rattle.paper.specs.Regrouping.{returned}
+use borrow.Author.Needs.{needs}
+use Rattle.host.proofs.glowenzo_regroup.Statement.{statement}
+use Rattle.host.proofs.glowenzo_regroup.Tie as tie
+use Rattle.host.proofs.glowenzo_regroup.Reads as reads
+use Rattle.host.proofs.glowenzo_regroup.Lts as lts
+use Rattle.answers.proofs.of_regrouping.Reads as of-regrouping-reads
+use Rattle.regrouping.proofs.regroup.Reads as regroup-reads
+
+-- src/lib.rt:78:28
+regroup-requires : tie.Need-regroup-requires
+regroup-requires c κs = search needs
+
+-- src/lib.rt:78:5
+of-regrouping-requires : tie.Need-of-regrouping-requires
+of-regrouping-requires c κs = search needs
+
+-- src/lib.rt:74:1
+returns : tie.Need-returns
+returns c = c .of-regrouping .ensures ∙ ap returned (c .before .regroup .ensures)
+
+pub glowenzo-regroup-spec : {M : Type 1} → statement M
+glowenzo-regroup-spec = tie.close (tie.spec regroup-requires of-regrouping-requires returns)

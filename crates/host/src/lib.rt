@@ -1,0 +1,79 @@
+// The two functions that the payment host calls, over lent bytes; include/glowenzo.h says them to C.
+use answers::OfMessage;
+use answers::OfRegrouping;
+use paper::Fault;
+use paper::Verdict;
+ghost use mathlib.Core.Path.{_≡_};
+ghost use mathlib.Core.List.{_++_};
+ghost use Prim.Native.Nat.{_+_, _*_, _≤_};
+ghost use lib.ListN.{length, take, drop};
+ghost use Rattle.paper.specs.Rows.{rows};
+ghost use Rattle.paper.specs.Regrouping.{regrouping, returned};
+ghost use Rattle.paper.specs.Host.{four-bytes, all-four-bytes};
+ghost use Rattle.answers.specs.Numbers.{as-regrouping-returned};
+ghost use Rattle.host.specs.Answers.{Answers};
+
+// A number as four bytes at a place of the table, where it has them.
+fn put(table: &mut [u8], at: usize, n: u32)
+    ensures { λ _. ⌜ (at + 4 ≤ length (now (table .entry)) → now (table .exit) ≡ take at (now (table .entry)) ++ (four-bytes n ++ drop (at + 4) (now (table .entry)))) ⌝ }
+{
+    if table.len() < 4 {
+        return;
+    }
+    if table.len() - 4 < at {
+        return;
+    }
+    table[at] = (n / 16777216) as u8;
+    table[at + 1] = (n / 65536 % 256) as u8;
+    table[at + 2] = (n / 256 % 256) as u8;
+    table[at + 3] = (n % 256) as u8;
+}
+
+// So many numbers from the table's start on; every later byte stays.
+fn write(numbers: &[u32], many: usize, table: &mut [u8])
+    ensures { λ _. ⌜ (many ≤ length (now (numbers .entry)) → 4 * many ≤ length (now (table .entry)) → now (table .exit) ≡ all-four-bytes (take many (now (numbers .entry))) ++ drop (4 * many) (now (table .entry))) ⌝ }
+{
+    let mut i = 0;
+    while i < many {
+        if numbers.len() <= i {
+            return;
+        }
+        put(table, 4 * i, numbers[i]);
+        i += 1;
+    }
+}
+
+// The verdict on a message, with the table as bytes.
+#[no_mangle]
+pub extern "C" fn glowenzo_verdict(message: &[u8], table: &mut [u8]) -> OfMessage
+    ensures { λ r. ⌜ Answers (now (message .entry)) (now (table .entry)) r (now (table .exit)) ⌝ }
+{
+    if table.len() < 4096 {
+        return answers::of_message(Verdict::Refused(Fault::TableTooShort));
+    }
+    let mut numbers = [0u32; 1024];
+    let found = reader::verdict(message, &mut numbers);
+    match found {
+        Verdict::Refused(fault) => answers::of_message(Verdict::Refused(fault)),
+        Verdict::Accepted {
+            blocks,
+            payments,
+            cents,
+        } => {
+            write(&numbers, 16 * payments, table);
+            answers::of_message(Verdict::Accepted {
+                blocks,
+                payments,
+                cents,
+            })
+        }
+    }
+}
+
+// Whether one message regroups another by a list.
+#[no_mangle]
+pub extern "C" fn glowenzo_regroup(first: &[u8], second: &[u8], list: &[u8]) -> OfRegrouping
+    ensures { λ r. ⌜ as-regrouping-returned r ≡ returned (regrouping rows (now (first .entry)) (now (second .entry)) (now (list .entry))) ⌝ }
+{
+    answers::of_regrouping(regrouping::regroup(first, second, list))
+}
