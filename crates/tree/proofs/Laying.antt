@@ -1,5 +1,5 @@
 -- What the pass that lays the tree out does, step by step.
-use Prim.Native.Nat.{ℕ, _+_, _*_, _≤_, _<_}
+use Prim.Native.Nat.{ℕ, _+_, _*_, _-_, _≤_, _<_}
 use mathlib.Core.List.{List}
 use mathlib.Core.Path.{_≡_, refl, sym, subst, _∙_}
 use mathlib.Core.Logic.{⊎-elim}
@@ -119,12 +119,12 @@ closed (holding-elements h []ᵉ) x e l = absurd x
 closed (holding-elements h (t ∷ᵉ ts)) x e (laid-more l m) = laid-elements e (omega (arith, laid-grows l, all-grow m)) (laid-more l m)
 
 -- The element at an offset: what its tags say of the code's numbers.
-module _ {s b₀ b₁ b₂ : List ℕ} (at i depth name-end tag-end close next : ℕ) (n : Finds s at 32 62 name-end) (g : Finds s at 62 62 tag-end)
+module _ {s b₀ b₁ b₂ : List ℕ} (at i depth name-end tag-end close next : ℕ) (n : Finds s at 32 62 name-end) (g : Finds s name-end 62 62 tag-end)
     (all : LaysAll s b₀ b₁ (tag-end + 1) (i + 1) (depth + 1) close next) (put : PutDown b₁ b₂ i at name-end (tag-end + 1) close next) where
   inner : (t : Element) {e : ℕ} → Tags s (head-of t) e → LieAll s (depth + 1) (head-of t .start) (held t) (head-of t .close)
       → head-of t .at ≡ at → Room s b₀ i at → LaidAll s b₁ (held t) (i + 1) next × (close ≡ head-of t .close) × (3 * next ≤ close)
   inner t tags lie p room =
-      let x : tag-end ≡ tags .tag-end = found-at g (tags .tag-ends) p in
+      let x : tag-end ≡ tags .tag-end = found-at g (tags .tag-ends) (sym (found-at n (tags .name-ends) p)) in
       all .laid (held t) (head-of t .close)
       (subst (λ (a : ℕ). LieAll s (depth + 1) a (held t) (head-of t .close)) (omega (arith, tags .start-is)) lie)
       (record { short = room .short; long = room .long; few = omega (arith, room .few, tags .long, tags .start-is) })
@@ -134,7 +134,7 @@ module _ {s b₀ b₁ b₂ : List ℕ} (at i depth name-end tag-end close next :
   entry-put t tags p room q few l =
       let w = tags .written in
       let nn : name-end ≡ head-of t .at + 1 + length (head-of t .name) = found-at n (tags .name-ends) p in
-      let x : tag-end ≡ tags .tag-end = found-at g (tags .tag-ends) p in
+      let x : tag-end ≡ tags .tag-end = found-at g (tags .tag-ends) (sym nn) in
       let a : head-of t .at + 3 ≤ head-of t .start = tags .long in
       let b : head-of t .start ≡ tags .tag-end + 1 = tags .start-is in
       let c₁ : head-of t .at + 1 + length (head-of t .name) ≤ head-of t .start = w .name-inside in
@@ -162,34 +162,27 @@ module _ {s b₀ b₁ b₂ : List ℕ} (at i depth name-end tag-end close next :
         kept = λ k h. put .kept .kept k h ∙ all .kept .kept k (omega arith);
       }
 
-  -- the end tag was not found
-  pub no-end : {last : ℕ} → Finds s close 62 62 last → length s ≤ last → i < 16384 → LaysOne s b₀ b₂ at i depth 0 0
-  no-end {last} f h few =
-      record {
-        kept = kept-one;
-        numbered = λ x. few;
-        laid = λ t e l p room. absurd (missed l p room);
-      }
-    where
-      missed : {t : Element} {e : ℕ} → Lies s depth t e → head-of t .at ≡ at → Room s b₀ i at → ⊥
-      missed {t} (lies d tags lie x) p room =
-          let r = inner t tags lie p room in
-          let z : last ≡ tags .last = found-at f (tags .last-is) (sym (r .1)) in
-          omega (arith, tags .last-is .inside)
-
-  pub one-laid : {last : ℕ} → Finds s close 62 62 last → i < 16384 → LaysOne s b₀ b₂ at i depth (last + 1) next
-  one-laid {last} f few = record { kept = kept-one; numbered = λ x. few; laid = λ t e l p room. went l p room }
+  -- `to` is the offset behind the end tag
+  pub one-laid : {to : ℕ} → (at ≤ name-end → name-end < 65536 → close < 65536 → to ≡ close + (name-end - at) + 2) → i < 16384 → LaysOne s b₀ b₂ at i depth to next
+  one-laid {to} f few = record { kept = kept-one; numbered = λ x. few; laid = λ t e l p room. went l p room }
     where
       went : {t : Element} {e : ℕ} → Lies s depth t e → head-of t .at ≡ at → Room s b₀ i at
-          → Laid s b₂ t i next × (last + 1 ≡ e) × (3 * next ≤ last + 1)
+          → Laid s b₂ t i next × (to ≡ e) × (3 * next ≤ to)
       went {t} (lies d tags lie x) p room =
           let r = inner t tags lie p room in
-          let z : last ≡ tags .last = found-at f (tags .last-is) (sym (r .1)) in
+          let w = tags .written in
+          let nn : name-end ≡ head-of t .at + 1 + length (head-of t .name) = found-at n (tags .name-ends) p in
+          let c₁ : head-of t .at + 1 + length (head-of t .name) ≤ head-of t .start = w .name-inside in
+          let c₂ : head-of t .start ≤ head-of t .close = w .start-first in
+          let c₃ : head-of t .close < length s = w .close-inside in
+          let c₄ : close ≡ head-of t .close = r .1 in
+          let c₅ : length s ≤ 32768 = room .short in
+          let z : to ≡ close + (name-end - at) + 2 = f (omega arith) (omega arith) (omega arith) in
           let g : i + 1 ≤ next = all-grow (r .0) in (
             closed t x (entry-put t tags p room (r .1) (r .2) (omega arith))
                 (all-stay (r .0) (record { length-same = put .kept .length-kept; agrees = λ k h l. put .above k h })),
             omega (arith, tags .end-is),
-            omega (arith, tags .last-is .from-on, r .1, r .2),
+            omega (arith, r .2),
           )
 
 -- no element is laid out: it lies too deep, its number is too large, its tag does not end
@@ -206,13 +199,13 @@ too-many {s} {b} {at} {i} {depth} h = record { kept = kept-same; numbered = λ x
     never (lies d tags lie x) p room =
         omega (arith, room .few, room .short, tags .written .close-inside, tags .written .start-first, tags .long)
 
-pub no-tag-end : {s b : List ℕ} {at i depth tag-end : ℕ} → Finds s at 62 62 tag-end → length s ≤ tag-end → LaysOne s b b at i depth 0 0
-no-tag-end {s} {b} {at} {i} {depth} {tag-end} g h =
+pub no-tag-end : {s b : List ℕ} {at i depth name-end tag-end : ℕ} → Finds s at 32 62 name-end → Finds s name-end 62 62 tag-end → length s ≤ tag-end → LaysOne s b b at i depth 0 0
+no-tag-end {s} {b} {at} {i} {depth} {name-end} {tag-end} n g h =
     record { kept = kept-same; numbered = λ x. absurd (omega arith); laid = λ t e l p room. absurd (never l p) }
   where
     never : {t : Element} {e : ℕ} → Lies s depth t e → head-of t .at ≡ at → ⊥
     never (lies d tags lie x) p =
-        let z : tag-end ≡ tags .tag-end = found-at g (tags .tag-ends) p in
+        let z : tag-end ≡ tags .tag-end = found-at g (tags .tag-ends) (sym (found-at n (tags .name-ends) p)) in
         omega (arith, tags .tag-ends .inside)
 
 -- Elements, one after the other: what is known of the rest of them at the offset of a `<`, with the elements before it laid out from i up to `next`.

@@ -95,6 +95,17 @@ first-in s at i one other w b y e h o n =
         let z : getD s k 0 ≡ getD w (k - at) 0 = ap (λ (j : ℕ). getD s j 0) (sym m) ∙ byte-in s at w (b ∷ y) (k - at) e (omega arith) in
         rw z (every-at h (k - at) (omega arith))
 
+-- the same from a later offset on
+first-later : {s : List ℕ} {from later one other i : ℕ} → First s from one other i → from ≤ later → later ≤ i → First s later one other i
+first-later f h l =
+    record {
+      from-on = l;
+      inside = f .inside;
+      stands = f .stands;
+      not-one = λ k p q. f .not-one k (omega arith) q;
+      not-other = λ k p q. f .not-other k (omega arith) q;
+    }
+
 -- What a start tag is made of: `<`, the name, a space or `>`; and `>` at its end only.
 record Shape (tag name currency : List ℕ) : Type 0 where
   initial : ℕ
@@ -230,6 +241,9 @@ module _ (s : List ℕ) (at : ℕ) (tag name currency inner rest : List ℕ) (g 
         currency-is = λ m. money-part m .1;
       }
 
+  body-length : length tag ≡ length (g .body) + 1
+  body-length = ap length (g .bodied) ∙ length-append (g .body) (62 ∷ [])
+
   tags-of : (end : ℕ) → end ≡ at + (length tag + (length inner + length (end-tag name))) → Tags s (head name currency at tag inner) end
   unfolding head end-tag bytes apart
   tags-of end n =
@@ -241,13 +255,11 @@ module _ (s : List ℕ) (at : ℕ) (tag name currency inner rest : List ℕ) (g 
             (omega arith);
         tag-end = at + length (g .body);
         tag-ends =
-            first-in s at _ 62 62 (g .body) 62 (inner ++ (end-tag name ++ rest))
-            (e ∙ ap (λ (l : List ℕ). l ++ (inner ++ (end-tag name ++ rest))) (g .bodied) ∙ simp append-assoc) (g .body-apart) (inl refl) refl;
-        start-is = let l : length tag ≡ length (g .body) + 1 = ap length (g .bodied) ∙ length-append (g .body) (62 ∷ []) in omega arith;
-        last = at + length tag + length inner + suc (suc (length name));
-        last-is =
-            first-in s (at + length tag + length inner) _ 62 62 (60 ∷ 47 ∷ name) 62 rest from-end
-            (more refl (more refl (every-map (λ b. apart-by (apart 32 62) 62 62 refl refl b) (g .name-apart)))) (inl refl) refl;
+            first-later
+            (first-in s at _ 62 62 (g .body) 62 (inner ++ (end-tag name ++ rest))
+            (e ∙ ap (λ (l : List ℕ). l ++ (inner ++ (end-tag name ++ rest))) (g .bodied) ∙ simp append-assoc) (g .body-apart) (inl refl) refl) (omega arith)
+            (omega (arith, lengths, body-length));
+        start-is = omega (arith, body-length);
         end-is = let l : length (end-tag name) ≡ suc (suc (length name + 1)) = ap (λ (k : ℕ). suc (suc k)) (length-append name (62 ∷ [])) in omega arith;
       }
 

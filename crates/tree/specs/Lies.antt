@@ -1,5 +1,5 @@
--- Where the elements of a message lie, by the first bytes that end each part: a name ends at the first space or `>`, a tag at the first `>`, and what
--- stands before an element or an end tag at the first `<`. The pass that lays the tree out is proved against this. Bytes are numbers: 60 is `<`, 62 `>`,
+-- Where the elements of a message lie, by the first bytes that end each part: a name ends at the first space or `>`, a start tag at the first `>` from there
+-- on, and what stands before an element or an end tag at the first `<`; an end tag is as long as its name and three bytes more. The pass that lays the tree out is proved against this. Bytes are numbers: 60 is `<`, 62 `>`,
 -- 47 `/`, 63 `?`, 32 a space.
 use Prim.Native.Nat.{ℕ, _+_, _*_, _≤_, _<_}
 use mathlib.Core.List.{List}
@@ -24,11 +24,9 @@ pub record Tags (s : List ℕ) (h : Head) (end : ℕ) : Type 0 where
   pub long : h .at + 3 ≤ h .start
   pub name-ends : First s (h .at) 32 62 (h .at + 1 + length (h .name))
   pub tag-end : ℕ
-  pub tag-ends : First s (h .at) 62 62 tag-end
+  pub tag-ends : First s (h .at + 1 + length (h .name)) 62 62 tag-end
   pub start-is : h .start ≡ tag-end + 1
-  pub last : ℕ
-  pub last-is : First s (h .close) 62 62 last
-  pub end-is : end ≡ last + 1
+  pub end-is : end ≡ h .close + length (h .name) + 3
 
 -- the elements that an element holds
 unfoldable pub held : Element → Elements

@@ -1,6 +1,6 @@
 // The tree of a message of the form, laid out as numbers in a lent buffer, five for each element (specs/Laid.antt).
 ghost use mathlib.Core.Path.{_≡_};
-ghost use Prim.Native.Nat.{ℕ, _+_, _*_, _<_, _≤_};
+ghost use Prim.Native.Nat.{ℕ, _+_, _*_, _-_, _<_, _≤_};
 ghost use lib.ListN.{length, getD};
 ghost use Rattle.paper.specs.Bytes.{same};
 ghost use Rattle.paper.specs.Form.{Head, Element, IsMessage};
@@ -118,6 +118,22 @@ struct Reach {
     next: usize,
 }
 
+// The offset behind an end tag at `close`, whose name is that from `at` up to `name_end`.
+fn behind(at: usize, name_end: usize, close: usize) -> usize
+    ensures { λ r. ⌜ (at ≤ «name_end» → «name_end» < 65536 → close < 65536 → r ≡ close + («name_end» - at) + 2) ⌝ }
+{
+    if name_end < at {
+        return 0;
+    }
+    if 65536 <= name_end {
+        return 0;
+    }
+    if 65536 <= close {
+        return 0;
+    }
+    close + (name_end - at) + 2
+}
+
 // Lays out the element at an offset as element i. Nothing was laid out where the next number is not larger.
 fn element(s: &[u8], tree: &mut [u16], at: usize, i: usize, depth: usize) -> Reach
     ensures { λ r. ⌜ LaysOne (now (s .entry)) (now (tree .entry)) (now (tree .exit)) at i depth (r .to) (r .next) ⌝ }
@@ -130,7 +146,7 @@ fn element(s: &[u8], tree: &mut [u16], at: usize, i: usize, depth: usize) -> Rea
         return nothing;
     }
     let name_end = find(s, at, b' ', b'>');
-    let tag_end = find(s, at, b'>', b'>');
+    let tag_end = find(s, name_end, b'>', b'>');
     if s.len() <= tag_end {
         return nothing;
     }
@@ -149,11 +165,8 @@ fn element(s: &[u8], tree: &mut [u16], at: usize, i: usize, depth: usize) -> Rea
             next,
         },
     );
-    let last = find(s, close, b'>', b'>');
-    if s.len() <= last {
-        return nothing;
-    }
-    Reach { to: last + 1, next }
+    let to = behind(at, name_end, close);
+    Reach { to, next }
 }
 
 // Lays out the elements from an offset on, up to the end tag around them, as element i and those after it.

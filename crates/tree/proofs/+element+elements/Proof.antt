@@ -2,7 +2,7 @@ use Prim.Native.Nat.{ℕ, _+_, _*_, _-_, _<_}
 use mathlib.Core.Path.{sym, _∙_}
 use native.Mathlib.Omega.{arith}
 use borrow.Author.Needs.{needs}
-use Rattle.tree.proofs.Laying.{Laying, laying-begins, laying-ends, laying-breaks, laying-fails, laying-goes-on, too-deep, too-many, no-tag-end, no-end, one-laid}
+use Rattle.tree.proofs.Laying.{Laying, laying-begins, laying-ends, laying-breaks, laying-fails, laying-goes-on, too-deep, too-many, no-tag-end, one-laid}
 use borrow.Fn.Kinds.{In}
 use borrow.Fn.PlainCycle.{Measures, is, falls, and}
 use Rattle.tree.proofs.element.Reads as element
@@ -12,6 +12,7 @@ use Rattle.tree.proofs.elements.Reads as elements
 use Rattle.tree.proofs.elements.Kinds as elements-kinds
 use Rattle.tree.proofs.+element+elements.Lts-elements as elements-lts
 use Rattle.texts.proofs.byte_at.Reads as byte-at-reads
+use Rattle.tree.proofs.behind.Reads as behind-reads
 use Rattle.tree.proofs.find.Reads as find-reads
 use Rattle.tree.proofs.put_down.Reads as put-down-reads
 use Rattle.tree.proofs.+element+elements.{statement}
@@ -36,6 +37,7 @@ abbrev elements-below : ℕ → In 2 elements-kinds.ps
 elements-below t =
     and 2 elements-kinds.ps (falls 2 elements-kinds.ps _<_ μ-elements t) elements.Pre
 
+-- src/lib.rt:143:9
 element-returns : (t : ℕ) → element-lts.Need-returns (
   find-reads.Asked,
   find-reads.Learnt,
@@ -43,9 +45,12 @@ element-returns : (t : ℕ) → element-lts.Need-returns (
   elements.Post,
   put-down-reads.Asked,
   put-down-reads.Learnt,
+  behind-reads.Asked,
+  behind-reads.Learnt,
 ) (element-at t) element.Post
 element-returns t c = too-deep (c .if1 .taken)
 
+-- src/lib.rt:146:9
 element-returns-2 : (t : ℕ) → element-lts.Need-returns-2 (
   find-reads.Asked,
   find-reads.Learnt,
@@ -53,9 +58,12 @@ element-returns-2 : (t : ℕ) → element-lts.Need-returns-2 (
   elements.Post,
   put-down-reads.Asked,
   put-down-reads.Learnt,
+  behind-reads.Asked,
+  behind-reads.Learnt,
 ) (element-at t) element.Post
 element-returns-2 t c = too-many (c .if2 .taken)
 
+-- src/lib.rt:148:9
 element-find-requires : (t : ℕ) → element-lts.Need-find-requires (
   find-reads.Asked,
   find-reads.Learnt,
@@ -63,9 +71,12 @@ element-find-requires : (t : ℕ) → element-lts.Need-find-requires (
   elements.Post,
   put-down-reads.Asked,
   put-down-reads.Learnt,
+  behind-reads.Asked,
+  behind-reads.Learnt,
 ) (element-at t) element.Post
 element-find-requires t c κs = search needs
 
+-- src/lib.rt:149:9
 element-find-requires-2 : (t : ℕ) → element-lts.Need-find-requires-2 (
   find-reads.Asked,
   find-reads.Learnt,
@@ -73,9 +84,12 @@ element-find-requires-2 : (t : ℕ) → element-lts.Need-find-requires-2 (
   elements.Post,
   put-down-reads.Asked,
   put-down-reads.Learnt,
+  behind-reads.Asked,
+  behind-reads.Learnt,
 ) (element-at t) element.Post
 element-find-requires-2 t c κs = search needs
 
+-- src/lib.rt:151:9
 element-returns-3 : (t : ℕ) → element-lts.Need-returns-3 (
   find-reads.Asked,
   find-reads.Learnt,
@@ -83,9 +97,12 @@ element-returns-3 : (t : ℕ) → element-lts.Need-returns-3 (
   elements.Post,
   put-down-reads.Asked,
   put-down-reads.Learnt,
+  behind-reads.Asked,
+  behind-reads.Learnt,
 ) (element-at t) element.Post
-element-returns-3 t c = no-tag-end (c .before .find2 .ensures) (c .if3 .taken)
+element-returns-3 t c = no-tag-end (c .before .before .find .ensures) (c .before .find2 .ensures) (c .if3 .taken)
 
+-- src/lib.rt:153:17
 element-add-start : (t : ℕ) → element-lts.Need-add-start (
   find-reads.Asked,
   find-reads.Learnt,
@@ -93,9 +110,12 @@ element-add-start : (t : ℕ) → element-lts.Need-add-start (
   elements.Post,
   put-down-reads.Asked,
   put-down-reads.Learnt,
+  behind-reads.Asked,
+  behind-reads.Learnt,
 ) (element-at t) element.Post
 element-add-start t c = search needs
 
+-- src/lib.rt:154:41
 element-add-elements : (t : ℕ) → element-lts.Need-add-elements (
   find-reads.Asked,
   find-reads.Learnt,
@@ -103,9 +123,12 @@ element-add-elements : (t : ℕ) → element-lts.Need-add-elements (
   elements.Post,
   put-down-reads.Asked,
   put-down-reads.Learnt,
+  behind-reads.Asked,
+  behind-reads.Learnt,
 ) (element-at t) element.Post
 element-add-elements t c = search needs
 
+-- src/lib.rt:154:48
 element-add-elements-2 : (t : ℕ) → element-lts.Need-add-elements-2 (
   find-reads.Asked,
   find-reads.Learnt,
@@ -113,9 +136,12 @@ element-add-elements-2 : (t : ℕ) → element-lts.Need-add-elements-2 (
   elements.Post,
   put-down-reads.Asked,
   put-down-reads.Learnt,
+  behind-reads.Asked,
+  behind-reads.Learnt,
 ) (element-at t) element.Post
 element-add-elements-2 t c = search needs
 
+-- src/lib.rt:154:9
 element-elements-requires : (t : ℕ) → element-lts.Need-elements-requires (
   find-reads.Asked,
   find-reads.Learnt,
@@ -123,9 +149,12 @@ element-elements-requires : (t : ℕ) → element-lts.Need-elements-requires (
   elements.Post,
   put-down-reads.Asked,
   put-down-reads.Learnt,
+  behind-reads.Asked,
+  behind-reads.Learnt,
 ) (element-at t) element.Post
 element-elements-requires t c κs = (omega (arith, c .before .before .before .before .before .before .before .before .pre .0, c .before .before .before .before .before .if1 .left), search needs)
 
+-- src/lib.rt:157:5
 element-put-down-requires : (t : ℕ) → element-lts.Need-put-down-requires (
   find-reads.Asked,
   find-reads.Learnt,
@@ -133,19 +162,25 @@ element-put-down-requires : (t : ℕ) → element-lts.Need-put-down-requires (
   elements.Post,
   put-down-reads.Asked,
   put-down-reads.Learnt,
+  behind-reads.Asked,
+  behind-reads.Learnt,
 ) (element-at t) element.Post
 element-put-down-requires t c κs = search needs
 
-element-find-requires-3 : (t : ℕ) → element-lts.Need-find-requires-3 (
+-- src/lib.rt:168:9
+element-behind-requires : (t : ℕ) → element-lts.Need-behind-requires (
   find-reads.Asked,
   find-reads.Learnt,
   elements-below t,
   elements.Post,
   put-down-reads.Asked,
   put-down-reads.Learnt,
+  behind-reads.Asked,
+  behind-reads.Learnt,
 ) (element-at t) element.Post
-element-find-requires-3 t c κs = search needs
+element-behind-requires t c κs = search needs
 
+-- src/lib.rt:138:1
 element-same-length : (t : ℕ) → element-lts.Need-same-length (
   find-reads.Asked,
   find-reads.Learnt,
@@ -153,9 +188,12 @@ element-same-length : (t : ℕ) → element-lts.Need-same-length (
   elements.Post,
   put-down-reads.Asked,
   put-down-reads.Learnt,
+  behind-reads.Asked,
+  behind-reads.Learnt,
 ) (element-at t) element.Post
 element-same-length t c = search needs
 
+-- src/lib.rt:138:1
 element-returns-4 : (t : ℕ) → element-lts.Need-returns-4 (
   find-reads.Asked,
   find-reads.Learnt,
@@ -163,38 +201,10 @@ element-returns-4 : (t : ℕ) → element-lts.Need-returns-4 (
   elements.Post,
   put-down-reads.Asked,
   put-down-reads.Learnt,
+  behind-reads.Asked,
+  behind-reads.Learnt,
 ) (element-at t) element.Post
-element-returns-4 t c = no-end (c .before .before .before .before .before .before .before .before .before .before .before .before .before .before .before .before .before .args .at) (c .before .before .before .before .before .before .before .before .before .before .before .before .before .before .before .before .before .args .i) (c .before .before .before .before .before .before .before .before .before .before .before .before .before .before .before .before .before .args .depth) (c .before .before .before .before .before .before .before .before .before .before .before .before .find .result) (c .before .before .before .before .before .before .before .before .before .before .before .find2 .result) (c .before .before .before .before .before .before .before .before .elements .result .to) (c .before .before .before .before .before .before .before .before .elements .result .next) (c .before .before .before .before .before .before .before .before .before .before .before .before .find .ensures) (c .before .before .before .before .before .before .before .before .before .before .before .find2 .ensures) (c .before .before .before .before .before .before .before .before .elements .ensures) (c .before .before .before .before .put-down .ensures) (c .before .find3 .ensures) (c .if4 .taken) (c .before .before .before .before .before .before .before .before .before .before .before .before .before .if2 .left)
-
-element-add-t18 : (t : ℕ) → element-lts.Need-add-t18 (
-  find-reads.Asked,
-  find-reads.Learnt,
-  elements-below t,
-  elements.Post,
-  put-down-reads.Asked,
-  put-down-reads.Learnt,
-) (element-at t) element.Post
-element-add-t18 t c = search needs
-
-element-same-length-2 : (t : ℕ) → element-lts.Need-same-length-2 (
-  find-reads.Asked,
-  find-reads.Learnt,
-  elements-below t,
-  elements.Post,
-  put-down-reads.Asked,
-  put-down-reads.Learnt,
-) (element-at t) element.Post
-element-same-length-2 t c = search needs
-
-element-returns-5 : (t : ℕ) → element-lts.Need-returns-5 (
-  find-reads.Asked,
-  find-reads.Learnt,
-  elements-below t,
-  elements.Post,
-  put-down-reads.Asked,
-  put-down-reads.Learnt,
-) (element-at t) element.Post
-element-returns-5 t c = one-laid (c .before .before .before .before .before .before .before .before .before .before .before .before .before .before .before .before .before .args .at) (c .before .before .before .before .before .before .before .before .before .before .before .before .before .before .before .before .before .args .i) (c .before .before .before .before .before .before .before .before .before .before .before .before .before .before .before .before .before .args .depth) (c .before .before .before .before .before .before .before .before .before .before .before .before .find .result) (c .before .before .before .before .before .before .before .before .before .before .before .find2 .result) (c .before .before .before .before .before .before .before .before .elements .result .to) (c .before .before .before .before .before .before .before .before .elements .result .next) (c .before .before .before .before .before .before .before .before .before .before .before .before .find .ensures) (c .before .before .before .before .before .before .before .before .before .before .before .find2 .ensures) (c .before .before .before .before .before .before .before .before .elements .ensures) (c .before .before .before .before .put-down .ensures) (c .before .find3 .ensures) (c .before .before .before .before .before .before .before .before .before .before .before .before .before .if2 .left)
+element-returns-4 t c = one-laid (c .before .before .before .before .before .before .before .before .before .before .before .before .before .before .before .before .args .at) (c .before .before .before .before .before .before .before .before .before .before .before .before .before .before .before .before .args .i) (c .before .before .before .before .before .before .before .before .before .before .before .before .before .before .before .before .args .depth) (c .before .before .before .before .before .before .before .before .before .before .before .find .result) (c .before .before .before .before .before .before .before .before .before .before .find2 .result) (c .before .before .before .before .before .before .before .elements .result .to) (c .before .before .before .before .before .before .before .elements .result .next) (c .before .before .before .before .before .before .before .before .before .before .before .find .ensures) (c .before .before .before .before .before .before .before .before .before .before .find2 .ensures) (c .before .before .before .before .before .before .before .elements .ensures) (c .before .before .before .put-down .ensures) (c .behind .ensures) (c .before .before .before .before .before .before .before .before .before .before .before .before .if2 .left)
 
 abbrev elements-Inv-loop : elements-lts.InvT-loop
 elements-Inv-loop s tree₀ from i depth at₀ next₀ tree at next = Laying s tree₀ from i depth tree at next
@@ -202,6 +212,7 @@ elements-Inv-loop s tree₀ from i depth at₀ next₀ tree at next = Laying s t
 abbrev elements-μ-loop : elements-lts.MeasureT-loop
 elements-μ-loop s tree₀ from i depth at₀ next₀ tree at next = 16384 - next
 
+-- src/lib.rt:176:9
 elements-find-requires : (t : ℕ) → elements-lts.Need-find-requires (
   find-reads.Asked,
   find-reads.Learnt,
@@ -212,6 +223,7 @@ elements-find-requires : (t : ℕ) → elements-lts.Need-find-requires (
 ) (elements-at t) elements.Post elements-Inv-loop elements-μ-loop
 elements-find-requires t c κs = search needs
 
+-- src/lib.rt:178:5
 elements-loop-holds : (t : ℕ) → elements-lts.Need-loop-holds (
   find-reads.Asked,
   find-reads.Learnt,
@@ -222,6 +234,7 @@ elements-loop-holds : (t : ℕ) → elements-lts.Need-loop-holds (
 ) (elements-at t) elements.Post elements-Inv-loop elements-μ-loop
 elements-loop-holds t c = laying-begins (c .find .ensures)
 
+-- src/lib.rt:179:30
 elements-add-byte-at : (t : ℕ) → elements-lts.Need-add-byte-at (
   find-reads.Asked,
   find-reads.Learnt,
@@ -232,6 +245,7 @@ elements-add-byte-at : (t : ℕ) → elements-lts.Need-add-byte-at (
 ) (elements-at t) elements.Post elements-Inv-loop elements-μ-loop
 elements-add-byte-at t c = search needs
 
+-- src/lib.rt:179:12
 elements-byte-at-requires : (t : ℕ) → elements-lts.Need-byte-at-requires (
   find-reads.Asked,
   find-reads.Learnt,
@@ -242,6 +256,7 @@ elements-byte-at-requires : (t : ℕ) → elements-lts.Need-byte-at-requires (
 ) (elements-at t) elements.Post elements-Inv-loop elements-μ-loop
 elements-byte-at-requires t c κs = search needs
 
+-- src/lib.rt:180:13
 elements-same-length : (t : ℕ) → elements-lts.Need-same-length (
   find-reads.Asked,
   find-reads.Learnt,
@@ -252,6 +267,7 @@ elements-same-length : (t : ℕ) → elements-lts.Need-same-length (
 ) (elements-at t) elements.Post elements-Inv-loop elements-μ-loop
 elements-same-length t c = search needs
 
+-- src/lib.rt:180:13
 elements-returns : (t : ℕ) → elements-lts.Need-returns (
   find-reads.Asked,
   find-reads.Learnt,
@@ -262,6 +278,7 @@ elements-returns : (t : ℕ) → elements-lts.Need-returns (
 ) (elements-at t) elements.Post elements-Inv-loop elements-μ-loop
 elements-returns t c = laying-ends (c .before .before .before .loop .inv) (sym (c .before .byte-at .ensures) ∙ c .if1 .taken)
 
+-- src/lib.rt:182:13
 elements-element-requires : (t : ℕ) → elements-lts.Need-element-requires (
   find-reads.Asked,
   find-reads.Learnt,
@@ -272,6 +289,7 @@ elements-element-requires : (t : ℕ) → elements-lts.Need-element-requires (
 ) (elements-at t) elements.Post elements-Inv-loop elements-μ-loop
 elements-element-requires t c κs = (omega (arith, c .before .before .before .before .before .before .before .before .pre .0), search needs)
 
+-- src/lib.rt:184:13
 elements-same-length-2 : (t : ℕ) → elements-lts.Need-same-length-2 (
   find-reads.Asked,
   find-reads.Learnt,
@@ -282,6 +300,7 @@ elements-same-length-2 : (t : ℕ) → elements-lts.Need-same-length-2 (
 ) (elements-at t) elements.Post elements-Inv-loop elements-μ-loop
 elements-same-length-2 t c = search needs
 
+-- src/lib.rt:184:13
 elements-returns-2 : (t : ℕ) → elements-lts.Need-returns-2 (
   find-reads.Asked,
   find-reads.Learnt,
@@ -292,6 +311,7 @@ elements-returns-2 : (t : ℕ) → elements-lts.Need-returns-2 (
 ) (elements-at t) elements.Post elements-Inv-loop elements-μ-loop
 elements-returns-2 t c = laying-fails (c .before .before .before .before .before .before .before .before .before .loop .inv) (λ e. c .before .before .before .before .before .before .if1 .left (c .before .before .before .before .before .before .before .byte-at .ensures ∙ e)) (c .before .before .before .before .element .ensures) (c .if2 .taken)
 
+-- src/lib.rt:187:9
 elements-find-requires-2 : (t : ℕ) → elements-lts.Need-find-requires-2 (
   find-reads.Asked,
   find-reads.Learnt,
@@ -302,6 +322,7 @@ elements-find-requires-2 : (t : ℕ) → elements-lts.Need-find-requires-2 (
 ) (elements-at t) elements.Post elements-Inv-loop elements-μ-loop
 elements-find-requires-2 t c κs = search needs
 
+-- src/lib.rt:178:5
 elements-loop-less : (t : ℕ) → elements-lts.Need-loop-less (
   find-reads.Asked,
   find-reads.Learnt,
@@ -312,6 +333,7 @@ elements-loop-less : (t : ℕ) → elements-lts.Need-loop-less (
 ) (elements-at t) elements.Post elements-Inv-loop elements-μ-loop
 elements-loop-less t c = omega (arith, c .before .before .before .before .before .element .ensures .numbered (c .before .if2 .left), c .before .if2 .left)
 
+-- src/lib.rt:178:5
 elements-loop-again : (t : ℕ) → elements-lts.Need-loop-again (
   find-reads.Asked,
   find-reads.Learnt,
@@ -322,6 +344,7 @@ elements-loop-again : (t : ℕ) → elements-lts.Need-loop-again (
 ) (elements-at t) elements.Post elements-Inv-loop elements-μ-loop
 elements-loop-again t c = laying-goes-on (c .before .before .before .before .before .before .before .before .before .before .loop .inv) (λ e. c .before .before .before .before .before .before .before .if1 .left (c .before .before .before .before .before .before .before .before .byte-at .ensures ∙ e)) (c .before .before .before .before .before .element .ensures) (c .before .if2 .left) (c .find2 .ensures)
 
+-- src/lib.rt:173:1
 elements-same-length-3 : (t : ℕ) → elements-lts.Need-same-length-3 (
   find-reads.Asked,
   find-reads.Learnt,
@@ -332,6 +355,7 @@ elements-same-length-3 : (t : ℕ) → elements-lts.Need-same-length-3 (
 ) (elements-at t) elements.Post elements-Inv-loop elements-μ-loop
 elements-same-length-3 t c = search needs
 
+-- src/lib.rt:173:1
 elements-returns-3 : (t : ℕ) → elements-lts.Need-returns-3 (
   find-reads.Asked,
   find-reads.Learnt,
@@ -350,6 +374,8 @@ pub +element+elements-spec : {M : Type 1} → statement M
   elements.Post,
   put-down-reads.Asked,
   put-down-reads.Learnt,
+  behind-reads.Asked,
+  behind-reads.Learnt,
 )
     (element-at t)
     element.Post
@@ -363,12 +389,9 @@ pub +element+elements-spec : {M : Type 1} → statement M
     (element-add-elements-2 t)
     (element-elements-requires t)
     (element-put-down-requires t)
-    (element-find-requires-3 t)
+    (element-behind-requires t)
     (element-same-length t)
-    (element-returns-4 t)
-    (element-add-t18 t)
-    (element-same-length-2 t)
-    (element-returns-5 t))
+    (element-returns-4 t))
     λ t. elements-lts.spec (
       find-reads.Asked,
       find-reads.Learnt,
