@@ -21,11 +21,11 @@ use Rattle.numbers.specs.declared.Reading.the-variants.{Not, Number}
 use Rattle.numbers.specs.Readings.{counted, in-cents}
 use Rattle.tree.specs.Laid.{Laid}
 use Rattle.tree.proofs.Laws.{Cell, at-cell, entry-of}
-use Rattle.order.specs.Finds.{Finds}
+use Rattle.routes.specs.Finds.{Finds}
 use Rattle.order.specs.Ordered.{PaymentAt, PaymentsAt, no-payments, more-payments}
-use Rattle.order.specs.declared.Found.{Found}
-use Rattle.order.specs.declared.Found.the-variants.{At, Nothing}
-use Rattle.order.proofs.WhatIsFound.{found-none, found-some}
+use Rattle.routes.specs.declared.Found.{Found}
+use Rattle.routes.specs.declared.Found.the-variants.{At, Nothing}
+use Rattle.routes.proofs.WhatIsFound.{found-none, found-some}
 use Rattle.counts.specs.declared.Sum.{Sum}
 use Rattle.counts.specs.declared.Sum.the-variants as sum
 use Rattle.counts.specs.declared.Total.{Total}

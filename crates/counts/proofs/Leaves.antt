@@ -16,11 +16,11 @@ use Rattle.paper.specs.declared.Finding.{Finding}
 use Rattle.paper.specs.declared.Finding.the-variants as finding
 use Rattle.tree.specs.Laid.{Laid, laid-text, laid-elements}
 use Rattle.tree.proofs.Laws.{Cell, at-cell, start-cell, close-cell, next-cell, entry-of}
-use Rattle.order.specs.Finds.{Finds, child-named, along, names-of}
-use Rattle.order.specs.declared.Found.{Found}
-use Rattle.order.specs.declared.Found.the-variants.{At, Nothing}
-use Rattle.order.proofs.Laws.{child-is, follow-is}
-use Rattle.order.proofs.WhatIsFound.{found-none, found-some}
+use Rattle.routes.specs.Finds.{Finds, child-named, along, names-of}
+use Rattle.routes.specs.declared.Found.{Found}
+use Rattle.routes.specs.declared.Found.the-variants.{At, Nothing}
+use Rattle.routes.proofs.Laws.{child-is, follow-is}
+use Rattle.routes.proofs.WhatIsFound.{found-none, found-some}
 
 -- the text of an element, by three of its numbers
 module _ {s tree : List ℕ} {i start close after : ℕ} (a : Cell tree i 2 start) (b : Cell tree i 3 close) (c : Cell tree i 4 after) where

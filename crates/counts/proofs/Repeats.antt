@@ -18,10 +18,10 @@ use Rattle.paper.specs.declared.Finding.the-variants as finding
 use Rattle.paper.proofs.Findings.{found-first}
 use Rattle.tree.specs.Laid.{Laid}
 use Rattle.order.specs.Ordered.{BlocksAt, no-blocks, more-blocks, Ordered}
-use Rattle.order.specs.declared.Found.{Found}
-use Rattle.order.specs.declared.Found.the-variants.{At, Nothing}
-use Rattle.order.specs.Finds.{Finds}
-use Rattle.order.proofs.WhatIsFound.{found-none, found-some}
+use Rattle.routes.specs.declared.Found.{Found}
+use Rattle.routes.specs.declared.Found.the-variants.{At, Nothing}
+use Rattle.routes.specs.Finds.{Finds}
+use Rattle.routes.proofs.WhatIsFound.{found-none, found-some}
 use Rattle.counts.specs.Counted.{with-id, with-ids, id-refusal}
 use Rattle.counts.proofs.Leaves.{later}
 

@@ -1,8 +1,8 @@
 // Refusals 11, 21, 12 and 13: block ids, the total of the amounts, counts and sums.
 use numbers::Reading;
-use order::Found;
 use paper::Fault;
 use paper::Finding;
+use routes::Found;
 ghost use mathlib.Core.Path.{_≡_};
 ghost use mathlib.Core.List.{List, [], _∷_, _++_, map};
 ghost use mathlib.Core.Option.{Option};
@@ -18,7 +18,7 @@ ghost use Rattle.paper.specs.Refusals.{_or-else_, unless, among-texts, at-of, i
 ghost use Rattle.paper.specs.Answers.{refusal-found};
 ghost use Rattle.paper.specs.Accepted.{All};
 ghost use Rattle.tree.specs.Laid.{Laid};
-ghost use Rattle.order.specs.Finds.{Finds};
+ghost use Rattle.routes.specs.Finds.{Finds};
 ghost use Rattle.order.specs.Ordered.{BlocksAt, PaymentsAt, Ordered};
 ghost use Rattle.counts.specs.Counted.{ReadCount, ReadMoney, ReadBlock, ReadPayment, Readable, with-id, with-ids, id-refusal, Sums, Totals, InBlock, BehindBlock, BlocksFrom, block-refusal, header-refusal};
 
@@ -86,7 +86,7 @@ fn first_found(one: Finding, other: Finding) -> Finding
 fn has_id(s: &[u8], tree: &[u16], block: usize, id: usize) -> bool
     ensures { λ r. ⌜ ((b t : Element) (m n : ℕ) → Laid (now (s .entry)) (now (tree .entry)) b block m → Laid (now (s .entry)) (now (tree .entry)) t id n → r ≡ among-texts (text-of t) (with-id [] (child rows 10 11 b))) ⌝ }
 {
-    let found = order::child(s, tree, block, b"PmtInfId");
+    let found = routes::child(s, tree, block, b"PmtInfId");
     let Found::At(i) = found else {
         return false;
     };
@@ -111,7 +111,7 @@ fn among_earlier(s: &[u8], tree: &[u16], out: &[u16], k: usize, id: usize) -> bo
 fn id_at(s: &[u8], tree: &[u16], out: &[u16], k: usize) -> Finding
     ensures { λ r. ⌜ ((bs : List Element) (b : Element) (n : ℕ) → BlocksAt (now (s .entry)) (now (tree .entry)) (now (out .entry)) 0 bs → k ≡ length bs → Laid (now (s .entry)) (now (tree .entry)) b (getD (now (out .entry)) k 0) n → refusal-found r ≡ id-refusal (with-ids [] bs) b) ⌝ }
 {
-    let found = order::child(s, tree, number_at(out, k), b"PmtInfId");
+    let found = routes::child(s, tree, number_at(out, k), b"PmtInfId");
     let Found::At(id) = found else {
         return Finding::Nothing;
     };
@@ -162,7 +162,7 @@ fn cents_at(s: &[u8], tree: &[u16], i: usize) -> u64
 pub fn amount(s: &[u8], tree: &[u16], own: usize) -> u64
     ensures { λ r. ⌜ ((t : Element) (next : ℕ) → Laid (now (s .entry)) (now (tree .entry)) t own next → ReadMoney (follow rows 37 (41 ∷ 42 ∷ []) t) → r ≡ amount-of rows t) ⌝ }
 {
-    let found = order::follow2(s, tree, own, b"Amt", b"InstdAmt");
+    let found = routes::follow2(s, tree, own, b"Amt", b"InstdAmt");
     match found {
         Found::Nothing => 0,
         Found::At(i) => cents_at(s, tree, i),
@@ -210,7 +210,7 @@ fn sum_of(s: &[u8], tree: &[u16], out: &[u16], from: usize, to: usize) -> Sum
 fn header_sum_at(s: &[u8], tree: &[u16]) -> usize
     ensures { λ r. ⌜ ((root : Element) (next : ℕ) → Laid (now (s .entry)) (now (tree .entry)) root 0 next → r ≡ at-of (of-header rows 7 root)) ⌝ }
 {
-    let found = order::follow3(s, tree, 0, b"CstmrCdtTrfInitn", b"GrpHdr", b"CtrlSum");
+    let found = routes::follow3(s, tree, 0, b"CstmrCdtTrfInitn", b"GrpHdr", b"CtrlSum");
     match found {
         Found::Nothing => 0,
         Found::At(i) => tree::cell(tree, i, 0),
@@ -293,9 +293,9 @@ fn in_block(s: &[u8], tree: &[u16], out: &[u16], block: usize, from: usize, to: 
     if to < from {
         return Finding::Nothing;
     }
-    let stated_count = order::child(s, tree, block, b"NbOfTxs");
+    let stated_count = routes::child(s, tree, block, b"NbOfTxs");
     let count = count_is(s, tree, stated_count, 14, to - from);
-    let stated_sum = order::child(s, tree, block, b"CtrlSum");
+    let stated_sum = routes::child(s, tree, block, b"CtrlSum");
     let sum = sum_is(s, tree, stated_sum, 15, sum_of(s, tree, out, from, to));
     first_found(count, sum)
 }
@@ -322,9 +322,9 @@ fn in_blocks(s: &[u8], tree: &[u16], out: &[u16], blocks: usize, payments: usize
 fn in_header(s: &[u8], tree: &[u16], payments: usize, total: u64) -> Finding
     ensures { λ r. ⌜ ((root : Element) (next : ℕ) → Laid (now (s .entry)) (now (tree .entry)) root 0 next → ReadCount (of-header rows 6 root) → ReadMoney (of-header rows 7 root) → refusal-found r ≡ header-refusal payments total root) ⌝ }
 {
-    let stated_count = order::follow3(s, tree, 0, b"CstmrCdtTrfInitn", b"GrpHdr", b"NbOfTxs");
+    let stated_count = routes::follow3(s, tree, 0, b"CstmrCdtTrfInitn", b"GrpHdr", b"NbOfTxs");
     let count_found = count_is(s, tree, stated_count, 6, payments);
-    let stated_sum = order::follow3(s, tree, 0, b"CstmrCdtTrfInitn", b"GrpHdr", b"CtrlSum");
+    let stated_sum = routes::follow3(s, tree, 0, b"CstmrCdtTrfInitn", b"GrpHdr", b"CtrlSum");
     let sum_found = sum_is(s, tree, stated_sum, 7, Sum::Cents(total));
     first_found(count_found, sum_found)
 }

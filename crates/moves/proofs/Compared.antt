@@ -20,9 +20,9 @@ use Rattle.numbers.specs.declared.Reading.{Reading}
 use Rattle.numbers.specs.declared.Reading.the-variants.{Not, Number}
 use Rattle.tree.specs.Laid.{between, Laid, laid-text, laid-elements}
 use Rattle.tree.proofs.Laws.{Cell, start-cell, close-cell, next-cell, entry-of}
-use Rattle.order.specs.Finds.{Finds, Leads, names-of}
-use Rattle.order.specs.declared.Found.{Found}
-use Rattle.order.proofs.Fields.{in-payment-is}
+use Rattle.routes.specs.Finds.{Finds, Leads, names-of}
+use Rattle.routes.specs.declared.Found.{Found}
+use Rattle.fields.proofs.Fields.{in-payment-is}
 use Rattle.moves.specs.Compared.{cents-of, IsMoney, InPayment, free-of, issuer-of, reference-of, amount-in, value-at}
 
 -- the text of an element, by its cells

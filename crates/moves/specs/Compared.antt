@@ -11,8 +11,8 @@ use Rattle.paper.specs.Values.{money, cents}
 use Rattle.paper.specs.Payments.{Payment, text-of, in-payment}
 use Rattle.paper.specs.Fields.{Value, values-of}
 use Rattle.tree.specs.Laid.{Laid}
-use Rattle.order.specs.Finds.{Finds}
-use Rattle.order.specs.declared.Found.{Found}
+use Rattle.routes.specs.Finds.{Finds}
+use Rattle.routes.specs.declared.Found.{Found}
 use Rattle.moves.specs.declared.Field.{Field}
 use Rattle.moves.specs.declared.Field.the-variants.{Same, Differs}
 

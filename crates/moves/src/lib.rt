@@ -1,6 +1,6 @@
 // What moves with a payment: the regrouping list, and the comparison of the payments that it pairs.
 use numbers::Reading;
-use order::Found;
+use routes::Found;
 ghost use mathlib.Core.Path.{_≡_};
 ghost use mathlib.Core.List.{List, [], _∷_};
 ghost use mathlib.Core.Option.{Option, none, some};
@@ -12,7 +12,7 @@ ghost use Rattle.paper.specs.Payments.{Payment, text-of};
 ghost use Rattle.paper.specs.Fields.{given, given-or, remittance, same-value, values-of, differ-from};
 ghost use Rattle.paper.specs.Regrouping.{ordinals-of, pairing, all-values};
 ghost use Rattle.tree.specs.Laid.{Laid};
-ghost use Rattle.order.specs.Finds.{Finds};
+ghost use Rattle.routes.specs.Finds.{Finds};
 ghost use Rattle.order.specs.Ordered.{PaymentAt};
 ghost use Rattle.moves.specs.Lists.{how-many};
 ghost use Rattle.moves.specs.Compared.{cents-of, IsMoney, InPayment, free-of, issuer-of, reference-of, amount-in, Stands, value-at, lowest};
@@ -172,20 +172,20 @@ fn cents(s: &[u8], tree: &[u16], found: Found) -> u64
 fn free(s: &[u8], tree: &[u16], own: usize) -> Found
     ensures { λ r. ⌜ InPayment (now (s .entry)) (now (tree .entry)) own (48 ∷ 49 ∷ []) r ⌝ }
 {
-    order::follow2(s, tree, own, b"RmtInf", b"Ustrd")
+    routes::follow2(s, tree, own, b"RmtInf", b"Ustrd")
 }
 
 fn issuer(s: &[u8], tree: &[u16], own: usize) -> Found
     ensures { λ r. ⌜ InPayment (now (s .entry)) (now (tree .entry)) own (48 ∷ 50 ∷ 51 ∷ 52 ∷ 54 ∷ []) r ⌝ }
 {
-    let kind = order::follow4(s, tree, own, b"RmtInf", b"Strd", b"CdtrRefInf", b"Tp");
-    order::child_under(s, tree, kind, b"Issr")
+    let kind = routes::follow4(s, tree, own, b"RmtInf", b"Strd", b"CdtrRefInf", b"Tp");
+    routes::child_under(s, tree, kind, b"Issr")
 }
 
 fn reference(s: &[u8], tree: &[u16], own: usize) -> Found
     ensures { λ r. ⌜ InPayment (now (s .entry)) (now (tree .entry)) own (48 ∷ 50 ∷ 51 ∷ 55 ∷ []) r ⌝ }
 {
-    order::follow4(s, tree, own, b"RmtInf", b"Strd", b"CdtrRefInf", b"Ref")
+    routes::follow4(s, tree, own, b"RmtInf", b"Strd", b"CdtrRefInf", b"Ref")
 }
 
 // Field 17 where neither has a free text: the reference and its issuer.
@@ -251,8 +251,8 @@ fn same_field(
     if field == 17 {
         return same_remittance(s1, tree1, own1, s2, tree2, own2);
     }
-    let mine = order::field_at(s1, tree1, own1, block1, field);
-    let theirs = order::field_at(s2, tree2, own2, block2, field);
+    let mine = fields::field_at(s1, tree1, own1, block1, field);
+    let theirs = fields::field_at(s2, tree2, own2, block2, field);
     if field == 1 {
         return same_or(s1, tree1, mine, s2, tree2, theirs, b"true");
     }

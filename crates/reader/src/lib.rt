@@ -157,7 +157,7 @@ pub fn field_in<'a>(
     }
     let own = tree::number(order, 16 + 3 * k);
     let block = tree::number(order, 17 + 3 * k);
-    let span = table::span_of(tree, order::field_at(message, tree, own, block, field));
+    let span = table::span_of(tree, fields::field_at(message, tree, own, block, field));
     part(message, span.start, span.size)
 }
 

@@ -1,5 +1,5 @@
 use Rattle.moves.proofs.Compared.{no-cents, is-cents, its-cents}
-use Rattle.order.proofs.WhatIsFound.{found-none, found-some}
+use Rattle.routes.proofs.WhatIsFound.{found-none, found-some}
 use borrow.Author.Needs.{needs}
 use Rattle.moves.proofs.cents.Statement.{statement}
 use Rattle.moves.proofs.cents.Tie as tie

@@ -2,7 +2,7 @@ use mathlib.Core.List.{[], _∷_}
 use mathlib.Core.Path.{refl}
 use Rattle.paper.specs.Bytes.{bytes}
 use Rattle.paper.specs.Rows.{rows, row-of, leaf, group, group-under}
-use Rattle.order.specs.Finds.{names-of, along}
+use Rattle.routes.specs.Finds.{names-of, along}
 use Rattle.moves.proofs.Compared.{in-payment-found}
 use borrow.Author.Needs.{needs}
 use Rattle.moves.proofs.issuer.Statement.{statement}

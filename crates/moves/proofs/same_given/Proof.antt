@@ -1,5 +1,5 @@
 use Rattle.moves.proofs.Compared.{second-alone, neither, first-alone, both-there, one-text}
-use Rattle.order.proofs.WhatIsFound.{found-none, found-some}
+use Rattle.routes.proofs.WhatIsFound.{found-none, found-some}
 use borrow.Author.Needs.{needs}
 use Rattle.moves.proofs.same_given.Statement.{statement}
 use Rattle.moves.proofs.same_given.Tie as tie

@@ -1,5 +1,5 @@
 use Rattle.moves.proofs.Compared.{meant-first, meant-second, both-said, one-text}
-use Rattle.order.proofs.WhatIsFound.{found-none, found-some}
+use Rattle.routes.proofs.WhatIsFound.{found-none, found-some}
 use mathlib.Core.Path.{refl}
 use borrow.Author.Needs.{needs}
 use Rattle.moves.proofs.same_or.Statement.{statement}

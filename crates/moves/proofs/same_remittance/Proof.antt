@@ -1,5 +1,5 @@
 use Rattle.moves.proofs.Compared.{free-first, free-second, not-free}
-use Rattle.order.proofs.WhatIsFound.{found-none, found-some}
+use Rattle.routes.proofs.WhatIsFound.{found-none, found-some}
 use Rattle.moves.specs.Compared.{free-of, issuer-of, reference-of}
 use borrow.Author.Needs.{needs}
 use Rattle.moves.proofs.same_remittance.Statement.{statement}

@@ -1,5 +1,5 @@
 use Rattle.moves.proofs.Compared.{references-differ, no-reference, references-agree}
-use Rattle.order.proofs.WhatIsFound.{found-none, found-some}
+use Rattle.routes.proofs.WhatIsFound.{found-none, found-some}
 use borrow.Author.Tests.{not-true, not-false}
 use Rattle.moves.specs.Compared.{issuer-of, reference-of}
 use borrow.Author.Needs.{needs}
