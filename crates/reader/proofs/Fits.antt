@@ -13,7 +13,7 @@ use Rattle.paper.specs.Payments.{Payment, text-of, all-of, follow, blocks, paym
 use Rattle.paper.specs.Refusals.{values-refusal}
 use Rattle.paper.specs.Accepted.{All, all-none, all-more}
 use Rattle.paper.proofs.Laws.{all-map}
-use Rattle.counts.specs.Counted.{ReadPayment, Readable}
+use Rattle.leaves.specs.Readable.{ReadPayment, Readable}
 use Rattle.table.specs.Rows.{Fitting}
 use Rattle.reader.proofs.Readable.{readable, small-amounts}
 

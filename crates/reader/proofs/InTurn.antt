@@ -28,9 +28,10 @@ use Rattle.tree.specs.Laid.{Laid}
 use Rattle.order.specs.Ordered.{Ordered, Few, Limited, is-within, is-excess}
 use Rattle.order.specs.declared.Limits.{Limits}
 use Rattle.order.specs.declared.Limits.the-variants.{Within, Excess}
-use Rattle.counts.specs.Counted.{Readable, Totals, total-is, total-above}
-use Rattle.counts.specs.declared.Total.{Total}
-use Rattle.counts.specs.declared.Total.the-variants as totalled
+use Rattle.leaves.specs.Readable.{Readable}
+use Rattle.totals.specs.Totals.{Totals, total-is, total-above}
+use Rattle.totals.specs.declared.Total.{Total}
+use Rattle.totals.specs.declared.Total.the-variants as totalled
 use Rattle.reader.specs.Decided.{Shaped, not-shaped, is-shaped, Placed, Passes, refuses, accepts, Decided, decided-refused, decided-accepted}
 use Rattle.reader.proofs.Readable.{readable}
 use Rattle.reader.proofs.Fits.{fits}

@@ -19,7 +19,7 @@ use Rattle.paper.proofs.Laws.{both, both-left, both-right, all-map}
 use Rattle.acceptance.proofs.Arranged.{rows-of}
 use Rattle.acceptance.proofs.Routes.{takes}
 use Rattle.acceptance.proofs.RightValues.{RightAs, header-right, blocks-right, payments-right, block-leaf-right, amount-right}
-use Rattle.counts.specs.Counted.{ReadBlock, ReadPayment, Readable}
+use Rattle.leaves.specs.Readable.{ReadBlock, ReadPayment, Readable}
 
 -- a right count of a row that takes at most fifteen bytes; right money; a right amount
 count-read : (parent k : ℕ) {h : Head} {w : List ℕ} → RightText parent (row-of rows parent k) h w → longest-of (row-of rows parent k .holds) ≡ 15

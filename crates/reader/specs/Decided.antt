@@ -18,7 +18,7 @@ use Rattle.paper.specs.declared.Verdict.{Verdict}
 use Rattle.paper.specs.declared.Verdict.the-variants.{Accepted, Refused}
 use Rattle.tree.specs.Laid.{Laid}
 use Rattle.order.specs.Ordered.{Ordered}
-use Rattle.counts.specs.Counted.{Readable}
+use Rattle.leaves.specs.Readable.{Readable}
 use Rattle.table.specs.Rows.{Fitting}
 
 -- 1 and 2: refused, or the tree is laid out.

@@ -1,10 +1,10 @@
 // The verdict on a message, the lent table, and the text of a field.
-use counts::Total;
 use form::Form;
 use order::Limits;
 use paper::Fault;
 use paper::Finding;
 use paper::Verdict;
+use totals::Total;
 ghost use mathlib.Core.Path.{_≡_};
 ghost use mathlib.Core.Option.{none};
 ghost use Prim.Native.Nat.{ℕ, _+_, _≤_, _<_};
@@ -39,7 +39,7 @@ fn shape(s: &[u8], tree: &mut [u16]) -> Finding
 fn sums(s: &[u8], tree: &[u16], order: &[u16], blocks: usize, payments: usize) -> Verdict
     ensures { λ r. ⌜ ((root : Element) (next : ℕ) → Laid (now (s .entry)) (now (tree .entry)) root 0 next → Ordered (now (s .entry)) (now (tree .entry)) (now (order .entry)) root → blocks ≡ length (all-blocks rows root) → payments ≡ length (all-payments rows root) → payments ≤ 64 → values-refusal rows root ≡ none → blocks ≤ 16 → Passes (now (s .entry)) (now (tree .entry)) (now (order .entry)) root (total-refusal rows root or-else counts-refusal rows root) r) ⌝ }
 {
-    let total = counts::total_cents(s, tree, order, payments);
+    let total = totals::total_cents(s, tree, order, payments);
     match total {
         Total::TooLarge { offset } => Verdict::Refused(Fault::TotalTooLarge { offset }),
         Total::Cents(cents) => {
@@ -68,7 +68,7 @@ fn judged(s: &[u8], tree: &[u16], order: &[u16], blocks: usize, payments: usize)
     if let Finding::Refused(fault) = usage {
         return Verdict::Refused(fault);
     }
-    let ids = counts::ids(s, tree, order, blocks);
+    let ids = ids::ids(s, tree, order, blocks);
     if let Finding::Refused(fault) = ids {
         return Verdict::Refused(fault);
     }

@@ -1,5 +1,5 @@
 // Whether one message regroups another by a list, for any two messages and any list.
-use moves::Listed;
+use lists::Listed;
 use moves::Paired;
 use paper::Regrouping;
 use paper::Verdict;
@@ -42,7 +42,7 @@ fn listed(
     if many1 != many2 {
         return Regrouping::NumbersOfPaymentsDiffer;
     }
-    let found = moves::ordinals(list);
+    let found = lists::ordinals(list);
     match found {
         Listed::NotOfTheForm => Regrouping::ListNotOfTheForm,
         Listed::Ordinals(n) => {

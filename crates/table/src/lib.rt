@@ -115,7 +115,7 @@ fn numbers_of(s: &[u8], tree: &[u16], own: usize, block: usize, number: usize) -
     ensures { λ r. ⌜ (length (now (s .entry)) ≤ 32768 → (p : Payment) (m n : ℕ) → Laid (now (s .entry)) (now (tree .entry)) (p .own) own m → Laid (now (s .entry)) (now (tree .entry)) (p .block) block n → Fitting p → number ≡ p .block-number → r ≡ numbers-of rows p) ⌝ }
 {
     let of = spans_of(s, tree, own, block);
-    let cents = counts::amount(s, tree, own);
+    let cents = totals::amount(s, tree, own);
     row(number, of, cents, tree::cell(tree, own, 0))
 }
 

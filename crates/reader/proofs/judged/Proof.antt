@@ -5,7 +5,7 @@ use Rattle.reader.proofs.judged.Statement.{statement}
 use Rattle.reader.proofs.judged.Tie as tie
 use Rattle.reader.proofs.judged.Reads as reads
 use Rattle.reader.proofs.judged.Lts as lts
-use Rattle.counts.proofs.ids.Reads as ids-reads
+use Rattle.ids.proofs.ids.Reads as ids-reads
 use Rattle.reader.proofs.sums.Reads as sums-reads
 use Rattle.rows.proofs.check.Reads as check-reads
 use Rattle.usage.proofs.usage.Reads as usage-reads

@@ -6,7 +6,7 @@ use Rattle.reader.proofs.sums.Tie as tie
 use Rattle.reader.proofs.sums.Reads as reads
 use Rattle.reader.proofs.sums.Lts as lts
 use Rattle.counts.proofs.counts.Reads as counts-reads
-use Rattle.counts.proofs.total_cents.Reads as total-cents-reads
+use Rattle.totals.proofs.total_cents.Reads as total-cents-reads
 
 -- src/lib.rt:40:9
 total-cents-requires : tie.Need-total-cents-requires
