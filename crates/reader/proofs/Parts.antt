@@ -25,7 +25,7 @@ use Rattle.order.proofs.Walk.{payment-at}
 use Rattle.table.specs.Rows.{SpanIs}
 use Rattle.table.specs.declared.Span.{Span}
 use Rattle.reader.specs.Answers.{HandsBack}
-use Rattle.reader.specs.Decided.{Placed, Decided, decided-refused, decided-accepted}
+use Rattle.stages.specs.Decided.{Placed, Decided, decided-refused, decided-accepted}
 
 pub so-many : (s : List ℕ) (start size : ℕ) → take (start + size - start) (drop start s) ≡ take size (drop start s)
 so-many s start size = let e : start + size - start ≡ size = omega arith in ap (λ (n : ℕ). take n (drop start s)) e

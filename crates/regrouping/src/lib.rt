@@ -67,7 +67,7 @@ fn with_second(
 {
     let mut tree2 = [0u16; 54615];
     let mut order2 = [0u16; 208];
-    let found = reader::outcome(second, &mut tree2, &mut order2);
+    let found = stages::outcome(second, &mut tree2, &mut order2);
     match found {
         Verdict::Refused(fault) => Regrouping::SecondRefused(fault),
         Verdict::Accepted {
@@ -96,7 +96,7 @@ pub fn regroup(first: &[u8], second: &[u8], list: &[u8]) -> Regrouping
 {
     let mut tree1 = [0u16; 54615];
     let mut order1 = [0u16; 208];
-    let found = reader::outcome(first, &mut tree1, &mut order1);
+    let found = stages::outcome(first, &mut tree1, &mut order1);
     match found {
         Verdict::Refused(fault) => Regrouping::FirstRefused(fault),
         Verdict::Accepted {
