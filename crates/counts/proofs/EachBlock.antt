@@ -20,10 +20,11 @@ use Rattle.paper.specs.declared.Finding.the-variants as finding
 use Rattle.paper.proofs.Findings.{found-first}
 use Rattle.tree.specs.Laid.{Laid}
 use Rattle.order.specs.Ordered.{PaymentsAt, no-payments, more-payments, Ordered}
-use Rattle.counts.specs.Counted.{ReadBlock, ReadPayment, Readable, InBlock, BehindBlock, BlocksFrom, block-refusal, header-refusal}
-use Rattle.counts.proofs.Leaves.{later}
-use Rattle.counts.proofs.Repeats.{first-block, no-block-left, one-fewer}
-use Rattle.counts.proofs.Amounts.{first-payment, first-has, others-have, amounts}
+use Rattle.leaves.specs.Readable.{ReadBlock, ReadPayment, Readable}
+use Rattle.counts.specs.Counted.{InBlock, BehindBlock, BlocksFrom, block-refusal, header-refusal}
+use Rattle.leaves.proofs.Leaves.{later}
+use Rattle.order.proofs.First.{first-block, no-block-left, one-fewer}
+use Rattle.totals.proofs.Amounts.{first-payment, first-has, others-have, amounts}
 
 -- Payment i is next, of n, and these of block k's payments are left.
 pub record Passing (s tree out : List ℕ) (k : ℕ) (ps rest : List Payment) (from i n : ℕ) : Type 0 where

@@ -1,4 +1,2 @@
 -- Laws that belong to no one function.
-pub mod Lists
-pub mod Compared
 pub mod Pairs

@@ -18,10 +18,11 @@ use Rattle.paper.specs.Accepted.{All, all-none, all-more}
 use Rattle.paper.specs.Fields.{Value, values-of, differ-from}
 use Rattle.paper.specs.Regrouping.{answered, pairing, all-values}
 use Rattle.order.specs.Ordered.{PaymentAt, PaymentsAt, no-payments, more-payments}
-use Rattle.moves.specs.Compared.{IsMoney, amount-in, lowest, Stands}
+use Rattle.alike.specs.Alike.{IsMoney, amount-in}
+use Rattle.compared.specs.Compared.{lowest, Stands}
 use Rattle.moves.specs.Pairs.{InOrder}
-use Rattle.moves.specs.declared.Field.{Field}
-use Rattle.moves.specs.declared.Field.the-variants.{Same, Differs}
+use Rattle.compared.specs.declared.Field.{Field}
+use Rattle.compared.specs.declared.Field.the-variants.{Same, Differs}
 
 -- a payment at its place in the order
 pub stands : {s tree order : List ℕ} {k own block : ℕ} {p : Payment} → PaymentAt s tree order k p → IsMoney (amount-in p) → own ≡ getD order (16 + 3 * k) 0

@@ -9,7 +9,7 @@ use Rattle.paper.specs.Payments.{payments}
 use Rattle.paper.specs.Accepted.{All}
 use Rattle.paper.specs.Regrouping.{Answer, answered}
 use Rattle.order.specs.Ordered.{PaymentsAt}
-use Rattle.moves.specs.Compared.{IsMoney, amount-in}
+use Rattle.alike.specs.Alike.{IsMoney, amount-in}
 use Rattle.moves.specs.declared.Paired.{Paired}
 use Rattle.moves.specs.declared.Paired.the-variants.{Accepted, OrdinalTooLarge, NamedBefore, FieldsDiffer}
 

@@ -1,5 +1,3 @@
 -- Laws that belong to no one function.
-pub mod Fields
-pub mod Laws
+pub mod First
 pub mod Walk
-pub mod WhatIsFound

@@ -17,13 +17,13 @@ use Rattle.paper.specs.Refusals.{Refusal, refuse, _or-else_, sixty-fifth, too-m
 use Rattle.paper.proofs.Laws.{some-not-none}
 use Rattle.tree.specs.Laid.{Laid, LaidAll}
 use Rattle.tree.proofs.Laws.{Cell, few-enough, at-cell, entry-of}
-use Rattle.order.specs.Finds.{Finds, with-name, child-named, Next}
+use Rattle.routes.specs.Finds.{Finds, with-name, child-named, Next}
 use Rattle.order.specs.Ordered.{BlocksAt, no-blocks, more-blocks, PaymentAt, PaymentsAt, no-payments, more-payments, Ordered, Limited, is-within, is-excess}
-use Rattle.order.specs.declared.Found.{Found}
-use Rattle.order.specs.declared.Found.the-variants.{At, Nothing}
+use Rattle.routes.specs.declared.Found.{Found}
+use Rattle.routes.specs.declared.Found.the-variants.{At, Nothing}
 use Rattle.order.specs.declared.Limits.{Limits}
 use Rattle.order.specs.declared.Limits.the-variants.{Within, Excess}
-use Rattle.order.proofs.Laws.{all-is, child-is, ends-at, located, absent, next-one, next-none}
+use Rattle.routes.proofs.Laws.{all-is, child-is, ends-at, located, absent, next-one, next-none}
 
 abbrev pub block-name : List ℕ
 block-name = bytes "PmtInf"

@@ -1,7 +1,4 @@
 -- Laws that belong to no one function.
-pub mod Readable
-pub mod Fits
-pub mod InTurn
 pub mod Verdicts
 pub mod Parts
 pub mod Agreement

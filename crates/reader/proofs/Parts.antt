@@ -17,15 +17,15 @@ use Rattle.paper.specs.declared.Fault.{Fault}
 use Rattle.paper.specs.declared.Verdict.{Verdict}
 use Rattle.paper.specs.declared.Verdict.the-variants.{Accepted, Refused}
 use Rattle.tree.specs.Laid.{Laid}
-use Rattle.order.specs.Finds.{Finds}
-use Rattle.order.specs.Fields.{FieldAt}
+use Rattle.routes.specs.Finds.{Finds}
+use Rattle.fields.specs.Fields.{FieldAt}
 use Rattle.order.specs.Ordered.{PaymentAt, PaymentsAt, no-payments, more-payments, Ordered}
-use Rattle.order.specs.declared.Found.{Found}
+use Rattle.routes.specs.declared.Found.{Found}
 use Rattle.order.proofs.Walk.{payment-at}
 use Rattle.table.specs.Rows.{SpanIs}
 use Rattle.table.specs.declared.Span.{Span}
 use Rattle.reader.specs.Answers.{HandsBack}
-use Rattle.reader.specs.Decided.{Placed, Decided, decided-refused, decided-accepted}
+use Rattle.stages.specs.Decided.{Placed, Decided, decided-refused, decided-accepted}
 
 pub so-many : (s : List ℕ) (start size : ℕ) → take (start + size - start) (drop start s) ≡ take size (drop start s)
 so-many s start size = let e : start + size - start ≡ size = omega arith in ap (λ (n : ℕ). take n (drop start s)) e

@@ -19,7 +19,7 @@ use Rattle.paper.specs.declared.Verdict.the-variants.{Accepted, Refused}
 use Rattle.order.specs.Ordered.{Ordered}
 use Rattle.table.specs.Rows.{Fitting}
 use Rattle.reader.specs.Answers.{Answers}
-use Rattle.reader.specs.Decided.{Placed, Decided, decided-refused, decided-accepted}
+use Rattle.stages.specs.Decided.{Placed, Decided, decided-refused, decided-accepted}
 
 pub too-short : (s before : List ℕ) → length before < 1024 → Answers s before (Refused TableTooShort) before
 unfolding verdict outcome table-refusal least-table refuse unless-refused answer answer-of refusal-of numbered table-after

@@ -26,13 +26,13 @@ use Rattle.paper.specs.declared.Verdict.the-variants.{Accepted, Refused}
 use Rattle.paper.specs.declared.Regrouping.{Regrouping}
 use Rattle.paper.specs.declared.Regrouping.the-variants as regroup
 use Rattle.paper.proofs.Laws.{all-map}
-use Rattle.moves.specs.Lists.{how-many}
+use Rattle.lists.specs.Lists.{how-many}
 use Rattle.moves.specs.Pairs.{InOrder, answer-of}
-use Rattle.moves.specs.declared.Listed.{Listed}
-use Rattle.moves.specs.declared.Listed.the-variants.{NotOfTheForm, Ordinals}
+use Rattle.lists.specs.declared.Listed.{Listed}
+use Rattle.lists.specs.declared.Listed.the-variants.{NotOfTheForm, Ordinals}
 use Rattle.moves.specs.declared.Paired.{Paired}
 use Rattle.moves.specs.declared.Paired.the-variants as paired
-use Rattle.reader.specs.Decided.{Placed, Decided, decided-refused, decided-accepted}
+use Rattle.stages.specs.Decided.{Placed, Decided, decided-refused, decided-accepted}
 
 -- the payments of an accepted message are in order
 in-order : {s tree order : List ℕ} {root : Element} {b p c : ℕ} → Placed s tree order root b p c → InOrder s tree order p root

@@ -1,5 +1,5 @@
 // Whether one message regroups another by a list, for any two messages and any list.
-use moves::Listed;
+use lists::Listed;
 use moves::Paired;
 use paper::Regrouping;
 use paper::Verdict;
@@ -42,7 +42,7 @@ fn listed(
     if many1 != many2 {
         return Regrouping::NumbersOfPaymentsDiffer;
     }
-    let found = moves::ordinals(list);
+    let found = lists::ordinals(list);
     match found {
         Listed::NotOfTheForm => Regrouping::ListNotOfTheForm,
         Listed::Ordinals(n) => {
@@ -67,7 +67,7 @@ fn with_second(
 {
     let mut tree2 = [0u16; 54615];
     let mut order2 = [0u16; 208];
-    let found = reader::outcome(second, &mut tree2, &mut order2);
+    let found = stages::outcome(second, &mut tree2, &mut order2);
     match found {
         Verdict::Refused(fault) => Regrouping::SecondRefused(fault),
         Verdict::Accepted {
@@ -96,7 +96,7 @@ pub fn regroup(first: &[u8], second: &[u8], list: &[u8]) -> Regrouping
 {
     let mut tree1 = [0u16; 54615];
     let mut order1 = [0u16; 208];
-    let found = reader::outcome(first, &mut tree1, &mut order1);
+    let found = stages::outcome(first, &mut tree1, &mut order1);
     match found {
         Verdict::Refused(fault) => Regrouping::FirstRefused(fault),
         Verdict::Accepted {

@@ -1,3 +1,2 @@
--- A profile as numbers, and what each step of the walk answers.
-pub mod Numbers
+-- What the walk answers.
 pub mod Walk

@@ -16,11 +16,11 @@ use Rattle.paper.specs.Fields.{either-of}
 use Rattle.paper.specs.Table.{Part, part-of, two-numbers, numbers-of}
 use Rattle.tree.specs.Laid.{Laid}
 use Rattle.tree.proofs.Laws.{Cell, at-cell, start-cell, close-cell, entry-of}
-use Rattle.order.specs.Finds.{Finds, along, names-of}
-use Rattle.order.specs.declared.Found.{Found}
-use Rattle.order.specs.declared.Found.the-variants.{At, Nothing}
-use Rattle.order.proofs.Fields.{inherited-along}
-use Rattle.order.proofs.WhatIsFound.{found-none, found-some}
+use Rattle.routes.specs.Finds.{Finds, along, names-of}
+use Rattle.routes.specs.declared.Found.{Found}
+use Rattle.routes.specs.declared.Found.the-variants.{At, Nothing}
+use Rattle.fields.proofs.Fields.{inherited-along}
+use Rattle.routes.proofs.WhatIsFound.{found-none, found-some}
 use Rattle.table.specs.Rows.{SpanIs, SpansOf, Fitting}
 use Rattle.table.specs.declared.Span.{Span}
 use Rattle.table.specs.declared.Spans.{Spans}

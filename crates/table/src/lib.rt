@@ -1,5 +1,5 @@
 // The lent table after acceptance: sixteen numbers for each payment.
-use order::Found;
+use routes::Found;
 ghost use mathlib.Core.Path.{_≡_};
 ghost use mathlib.Core.List.{List, [], _∷_, _++_};
 ghost use mathlib.Core.Option.{Option};
@@ -12,7 +12,7 @@ ghost use Rattle.paper.specs.Payments.{Payment, payments};
 ghost use Rattle.paper.specs.Table.{part-of, numbers-of, all-numbers};
 ghost use Rattle.paper.specs.Accepted.{All};
 ghost use Rattle.tree.specs.Laid.{Laid};
-ghost use Rattle.order.specs.Finds.{Finds};
+ghost use Rattle.routes.specs.Finds.{Finds};
 ghost use Rattle.order.specs.Ordered.{Ordered};
 ghost use Rattle.table.specs.Rows.{SpanIs, SpansOf, Fitting};
 
@@ -53,12 +53,12 @@ pub fn span_of(tree: &[u16], found: Found) -> Span
 fn spans_of(s: &[u8], tree: &[u16], own: usize, block: usize) -> Spans
     ensures { λ r. ⌜ ((p : Payment) (m n : ℕ) → Laid (now (s .entry)) (now (tree .entry)) (p .own) own m → Laid (now (s .entry)) (now (tree .entry)) (p .block) block n → SpansOf (now (s .entry)) p r) ⌝ }
 {
-    let id = span_of(tree, order::field_at(s, tree, own, block, 10));
-    let creditor = span_of(tree, order::field_at(s, tree, own, block, 14));
-    let name = span_of(tree, order::field_at(s, tree, own, block, 13));
-    let ultimate = span_of(tree, order::field_at(s, tree, own, block, 8));
-    let kind = span_of(tree, order::inherited1(s, tree, own, block, b"PmtTpInf"));
-    let debtor = span_of(tree, order::field_at(s, tree, own, block, 6));
+    let id = span_of(tree, fields::field_at(s, tree, own, block, 10));
+    let creditor = span_of(tree, fields::field_at(s, tree, own, block, 14));
+    let name = span_of(tree, fields::field_at(s, tree, own, block, 13));
+    let ultimate = span_of(tree, fields::field_at(s, tree, own, block, 8));
+    let kind = span_of(tree, routes::inherited1(s, tree, own, block, b"PmtTpInf"));
+    let debtor = span_of(tree, fields::field_at(s, tree, own, block, 6));
     Spans {
         id,
         creditor,
@@ -115,7 +115,7 @@ fn numbers_of(s: &[u8], tree: &[u16], own: usize, block: usize, number: usize) -
     ensures { λ r. ⌜ (length (now (s .entry)) ≤ 32768 → (p : Payment) (m n : ℕ) → Laid (now (s .entry)) (now (tree .entry)) (p .own) own m → Laid (now (s .entry)) (now (tree .entry)) (p .block) block n → Fitting p → number ≡ p .block-number → r ≡ numbers-of rows p) ⌝ }
 {
     let of = spans_of(s, tree, own, block);
-    let cents = counts::amount(s, tree, own);
+    let cents = totals::amount(s, tree, own);
     row(number, of, cents, tree::cell(tree, own, 0))
 }
 

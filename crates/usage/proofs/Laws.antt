@@ -15,10 +15,10 @@ use Rattle.paper.specs.declared.Fault.{Fault}
 use Rattle.paper.specs.declared.Fault.the-variants.{InPaymentAndBlock, InNeither}
 use Rattle.tree.specs.Laid.{Laid}
 use Rattle.tree.proofs.Laws.{Cell, at-cell, entry-of}
-use Rattle.order.specs.Finds.{Finds, child-named}
-use Rattle.order.specs.declared.Found.{Found}
-use Rattle.order.specs.declared.Found.the-variants.{At, Nothing}
-use Rattle.order.proofs.WhatIsFound.{found-none, found-some, FoundAt, own-row, block-row}
+use Rattle.routes.specs.Finds.{Finds, child-named}
+use Rattle.routes.specs.declared.Found.{Found}
+use Rattle.routes.specs.declared.Found.the-variants.{At, Nothing}
+use Rattle.routes.proofs.WhatIsFound.{found-none, found-some, FoundAt, own-row, block-row}
 
 module _ (row : ℕ) {s tree name : List ℕ} (p : Payment) (own-name : name ≡ row-of rows 37 row .name) (block-name : name ≡ row-of rows 10 row .name) where
   pub not-own : {f : Found} → Finds s tree (child-named name (p .own)) f → f ≡ Nothing → refusal-found finding.Nothing ≡ in-both rows row p

@@ -1,7 +1,7 @@
 // Refusals 9 and 10: rows 16, 36 and 34 in a payment and in its block.
-use order::Found;
 use paper::Fault;
 use paper::Finding;
+use routes::Found;
 ghost use mathlib.Core.Path.{_≡_};
 ghost use Prim.Native.Nat.{ℕ, _≤_};
 ghost use lib.ListN.{length};
@@ -18,11 +18,11 @@ ghost use Rattle.usage.specs.Used.{refusal-in-payment};
 fn in_both(s: &[u8], tree: &[u16], own: usize, block: usize, row: usize, name: &[u8]) -> Finding
     ensures { λ r. ⌜ ((p : Payment) (m n : ℕ) → Laid (now (s .entry)) (now (tree .entry)) (p .own) own m → Laid (now (s .entry)) (now (tree .entry)) (p .block) block n → now (name .entry) ≡ row-of rows 37 row .name → now (name .entry) ≡ row-of rows 10 row .name → refusal-found r ≡ in-both rows row p) ⌝ }
 {
-    let mine = order::child(s, tree, own, name);
+    let mine = routes::child(s, tree, own, name);
     let Found::At(i) = mine else {
         return Finding::Nothing;
     };
-    let theirs = order::child(s, tree, block, name);
+    let theirs = routes::child(s, tree, block, name);
     let Found::At(_) = theirs else {
         return Finding::Nothing;
     };
@@ -36,11 +36,11 @@ fn in_both(s: &[u8], tree: &[u16], own: usize, block: usize, row: usize, name: &
 fn in_neither(s: &[u8], tree: &[u16], own: usize, block: usize) -> Finding
     ensures { λ r. ⌜ ((p : Payment) (m n : ℕ) → Laid (now (s .entry)) (now (tree .entry)) (p .own) own m → Laid (now (s .entry)) (now (tree .entry)) (p .block) block n → refusal-found r ≡ in-neither rows 16 p) ⌝ }
 {
-    let mine = order::child(s, tree, own, b"PmtTpInf");
+    let mine = routes::child(s, tree, own, b"PmtTpInf");
     if let Found::At(_) = mine {
         return Finding::Nothing;
     }
-    let theirs = order::child(s, tree, block, b"PmtTpInf");
+    let theirs = routes::child(s, tree, block, b"PmtTpInf");
     if let Found::At(_) = theirs {
         return Finding::Nothing;
     }

@@ -5,7 +5,7 @@ use Rattle.paper.specs.Values.{number}
 use Rattle.paper.specs.Payments.{text-of}
 use Rattle.paper.specs.Answers.{refusal-of}
 use Rattle.paper.specs.declared.Fault.the-variants.{CountDiffers}
-use Rattle.counts.proofs.Leaves.{leaf-absent, leaf-right, leaf-wrong}
+use Rattle.leaves.proofs.Leaves.{leaf-absent, leaf-right, leaf-wrong}
 use borrow.Author.Needs.{needs}
 use Rattle.counts.proofs.count_is.Statement.{statement}
 use Rattle.counts.proofs.count_is.Tie as tie

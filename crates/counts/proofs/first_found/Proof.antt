@@ -1,5 +1,5 @@
 use borrow.Author.Needs.{needs}
-use Rattle.counts.proofs.Leaves.{first-refuses, first-nothing}
+use Rattle.leaves.proofs.Leaves.{first-refuses, first-nothing}
 use Rattle.counts.proofs.first_found.Statement.{statement}
 use Rattle.counts.proofs.first_found.Tie as tie
 

@@ -2,8 +2,8 @@ use native.Mathlib.Omega.{arith}
 use mathlib.Core.Path.{refl, _∙_}
 use Rattle.paper.specs.Bytes.{bytes}
 use Rattle.paper.specs.Rows.{rows, row-of, leaf, group, group-under}
-use Rattle.counts.proofs.Leaves.{row-found}
-use Rattle.counts.proofs.Amounts.{amounts}
+use Rattle.leaves.proofs.Leaves.{row-found}
+use Rattle.totals.proofs.Amounts.{amounts}
 use Rattle.counts.proofs.EachBlock.{both-found, block-is}
 use borrow.Author.Needs.{needs}
 use Rattle.counts.proofs.in_block.Statement.{statement}

@@ -19,8 +19,8 @@ loop-holds c = λ bs w. blocks-left w
 block-end-requires : tie.Need-block-end-requires Inv-loop μ-loop
 block-end-requires c κs = search needs
 
-number-at-requires : tie.Need-number-at-requires Inv-loop μ-loop
-number-at-requires c κs = search needs
+number-requires : tie.Need-number-requires Inv-loop μ-loop
+number-requires c κs = search needs
 
 in-block-requires : tie.Need-in-block-requires Inv-loop μ-loop
 in-block-requires c κs = search needs
@@ -32,7 +32,7 @@ enum-told-2 : tie.Need-enum-told-2 Inv-loop μ-loop
 enum-told-2 c = search needs
 
 returns : tie.Need-returns Inv-loop μ-loop
-returns c = λ bs w. block-refused (c .before .before .before .before .before .before .loop .inv bs w) _ (c .before .before .before .before .before .loop-test .taken) (c .before .before .before .number-at .ensures) (c .before .before .before .before .block-end .ensures) (c .before .before .in-block .ensures) (c .enum-told2 .given .1)
+returns c = λ bs w. block-refused (c .before .before .before .before .before .before .loop .inv bs w) _ (c .before .before .before .before .before .loop-test .taken) (c .before .before .before .number .ensures) (c .before .before .before .before .block-end .ensures) (c .before .before .in-block .ensures) (c .enum-told2 .given .1)
 
 add-k : tie.Need-add-k Inv-loop μ-loop
 add-k c = search needs
@@ -41,7 +41,7 @@ loop-less : tie.Need-loop-less Inv-loop μ-loop
 loop-less c = search needs
 
 loop-again : tie.Need-loop-again Inv-loop μ-loop
-loop-again c = λ bs w. block-passed (c .before .before .before .before .before .before .loop .inv bs w) _ (c .before .before .before .before .before .loop-test .taken) (c .before .before .before .number-at .ensures) (c .before .before .before .before .block-end .ensures) (c .before .before .in-block .ensures) (c .enum-told .given .1)
+loop-again c = λ bs w. block-passed (c .before .before .before .before .before .before .loop .inv bs w) _ (c .before .before .before .before .before .loop-test .taken) (c .before .before .before .number .ensures) (c .before .before .before .before .block-end .ensures) (c .before .before .in-block .ensures) (c .enum-told .given .1)
 
 returns-2 : tie.Need-returns-2 Inv-loop μ-loop
 returns-2 c = λ bs w. blocks-done (c .before .loop .inv bs w) (c .loop-test .left)
@@ -54,7 +54,7 @@ in-blocks-spec =
     μ-loop
     loop-holds
     block-end-requires
-    number-at-requires
+    number-requires
     in-block-requires
     enum-told
     enum-told-2

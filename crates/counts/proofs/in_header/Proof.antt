@@ -2,10 +2,11 @@ use mathlib.Core.Path.{refl}
 use mathlib.Core.List.{[], _∷_}
 use Rattle.paper.specs.Bytes.{bytes}
 use Rattle.paper.specs.Rows.{rows, row-of, leaf, group, group-under}
-use Rattle.order.specs.Finds.{names-of, along, child-under}
+use Rattle.routes.specs.Finds.{names-of, along, child-under}
 use Rattle.paper.specs.Payments.{of-header}
-use Rattle.counts.specs.Counted.{sums-to, header-refusal}
-use Rattle.counts.proofs.Leaves.{route-found}
+use Rattle.totals.specs.Totals.{sums-to}
+use Rattle.counts.specs.Counted.{header-refusal}
+use Rattle.leaves.proofs.Leaves.{route-found}
 use Rattle.counts.proofs.EachBlock.{both-found}
 use borrow.Author.Needs.{needs}
 use Rattle.counts.proofs.in_header.Statement.{statement}

@@ -1,4 +1,4 @@
-use Rattle.counts.proofs.Amounts.{same-number, never-same}
+use Rattle.totals.proofs.Amounts.{same-number, never-same}
 use borrow.Author.Needs.{needs}
 use Rattle.counts.proofs.same_cents.Statement.{statement}
 use Rattle.counts.proofs.same_cents.Tie as tie

@@ -4,7 +4,7 @@ use lib.Dec.{eqb}
 use Rattle.paper.specs.Values.{cents}
 use Rattle.paper.specs.Answers.{refusal-of}
 use Rattle.paper.specs.declared.Fault.the-variants.{SumDiffers}
-use Rattle.counts.proofs.Leaves.{leaf-absent, leaf-right, leaf-wrong}
+use Rattle.leaves.proofs.Leaves.{leaf-absent, leaf-right, leaf-wrong}
 use borrow.Author.Needs.{needs}
 use Rattle.counts.proofs.sum_is.Statement.{statement}
 use Rattle.counts.proofs.sum_is.Tie as tie

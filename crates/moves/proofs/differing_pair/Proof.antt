@@ -10,47 +10,47 @@ returns c = λ a b. absurd (omega arith)
 returns-2 : tie.Need-returns-2
 returns-2 c = λ a b. absurd (omega arith)
 
-mul-placed : tie.Need-mul-placed
-mul-placed c = search needs
+mul-number : tie.Need-mul-number
+mul-number c = search needs
 
-add-placed : tie.Need-add-placed
-add-placed c = search needs
+add-number : tie.Need-add-number
+add-number c = search needs
 
-placed-requires : tie.Need-placed-requires
-placed-requires c κs = search needs
+number-requires : tie.Need-number-requires
+number-requires c κs = search needs
 
-mul-placed-2 : tie.Need-mul-placed-2
-mul-placed-2 c = search needs
+mul-number-2 : tie.Need-mul-number-2
+mul-number-2 c = search needs
 
-add-placed-2 : tie.Need-add-placed-2
-add-placed-2 c = search needs
+add-number-2 : tie.Need-add-number-2
+add-number-2 c = search needs
 
-placed-requires-2 : tie.Need-placed-requires-2
-placed-requires-2 c κs = search needs
+number-requires-2 : tie.Need-number-requires-2
+number-requires-2 c κs = search needs
 
-mul-placed-3 : tie.Need-mul-placed-3
-mul-placed-3 c = search needs
+mul-number-3 : tie.Need-mul-number-3
+mul-number-3 c = search needs
 
-add-placed-3 : tie.Need-add-placed-3
-add-placed-3 c = search needs
+add-number-3 : tie.Need-add-number-3
+add-number-3 c = search needs
 
-placed-requires-3 : tie.Need-placed-requires-3
-placed-requires-3 c κs = search needs
+number-requires-3 : tie.Need-number-requires-3
+number-requires-3 c κs = search needs
 
-mul-placed-4 : tie.Need-mul-placed-4
-mul-placed-4 c = search needs
+mul-number-4 : tie.Need-mul-number-4
+mul-number-4 c = search needs
 
-add-placed-4 : tie.Need-add-placed-4
-add-placed-4 c = search needs
+add-number-4 : tie.Need-add-number-4
+add-number-4 c = search needs
 
-placed-requires-4 : tie.Need-placed-requires-4
-placed-requires-4 c κs = search needs
+number-requires-4 : tie.Need-number-requires-4
+number-requires-4 c κs = search needs
 
 differing-requires : tie.Need-differing-requires
 differing-requires c κs = search needs
 
 returns-3 : tie.Need-returns-3
-returns-3 c = λ a b p q f m g n. c .differing .ensures p q (stands f m (c .before .before .before .before .placed .ensures) (c .before .before .before .placed2 .ensures)) (stands g n (c .before .before .placed3 .ensures) (c .before .placed4 .ensures))
+returns-3 c = λ a b p q f m g n. c .differing .ensures p q (stands f m (c .before .before .before .before .number .ensures) (c .before .before .before .number2 .ensures)) (stands g n (c .before .before .number3 .ensures) (c .before .number4 .ensures))
 
 pub differing-pair-spec : {M : Type 1} → statement M
 differing-pair-spec =
@@ -58,17 +58,17 @@ differing-pair-spec =
     (tie.spec
     returns
     returns-2
-    mul-placed
-    add-placed
-    placed-requires
-    mul-placed-2
-    add-placed-2
-    placed-requires-2
-    mul-placed-3
-    add-placed-3
-    placed-requires-3
-    mul-placed-4
-    add-placed-4
-    placed-requires-4
+    mul-number
+    add-number
+    number-requires
+    mul-number-2
+    add-number-2
+    number-requires-2
+    mul-number-3
+    add-number-3
+    number-requires-3
+    mul-number-4
+    add-number-4
+    number-requires-4
     differing-requires
     returns-3)

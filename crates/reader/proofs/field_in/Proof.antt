@@ -5,7 +5,7 @@ use Rattle.reader.proofs.field_in.Statement.{statement}
 use Rattle.reader.proofs.field_in.Tie as tie
 use Rattle.reader.proofs.field_in.Reads as reads
 use Rattle.reader.proofs.field_in.Lts as lts
-use Rattle.order.proofs.field_at.Reads as field-at-reads
+use Rattle.fields.proofs.field_at.Reads as field-at-reads
 use Rattle.reader.proofs.part.Reads as part-reads
 use Rattle.table.proofs.span_of.Reads as span-of-reads
 use Rattle.tree.proofs.number.Reads as number-reads

@@ -8,7 +8,7 @@ use Rattle.reader.proofs.verdict.Statement.{statement}
 use Rattle.reader.proofs.verdict.Tie as tie
 use Rattle.reader.proofs.verdict.Reads as reads
 use Rattle.reader.proofs.verdict.Lts as lts
-use Rattle.reader.proofs.outcome.Reads as outcome-reads
+use Rattle.stages.proofs.outcome.Reads as outcome-reads
 use Rattle.table.proofs.fill.Reads as fill-reads
 
 -- src/lib.rt:108:9

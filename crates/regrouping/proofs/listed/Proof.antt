@@ -5,7 +5,7 @@ use Rattle.regrouping.proofs.listed.Statement.{statement}
 use Rattle.regrouping.proofs.listed.Tie as tie
 use Rattle.regrouping.proofs.listed.Reads as reads
 use Rattle.regrouping.proofs.listed.Lts as lts
-use Rattle.moves.proofs.ordinals.Reads as ordinals-reads
+use Rattle.lists.proofs.ordinals.Reads as ordinals-reads
 use Rattle.moves.proofs.pairing.Reads as pairing-reads
 use Rattle.regrouping.proofs.paired_as.Reads as paired-as-reads
 

@@ -8,7 +8,7 @@ use Rattle.regrouping.proofs.regroup.Statement.{statement}
 use Rattle.regrouping.proofs.regroup.Tie as tie
 use Rattle.regrouping.proofs.regroup.Reads as reads
 use Rattle.regrouping.proofs.regroup.Lts as lts
-use Rattle.reader.proofs.outcome.Reads as outcome-reads
+use Rattle.stages.proofs.outcome.Reads as outcome-reads
 use Rattle.regrouping.proofs.with_second.Reads as with-second-reads
 
 -- src/lib.rt:78:40

@@ -8,7 +8,7 @@ use Rattle.regrouping.proofs.with_second.Statement.{statement}
 use Rattle.regrouping.proofs.with_second.Tie as tie
 use Rattle.regrouping.proofs.with_second.Reads as reads
 use Rattle.regrouping.proofs.with_second.Lts as lts
-use Rattle.reader.proofs.outcome.Reads as outcome-reads
+use Rattle.stages.proofs.outcome.Reads as outcome-reads
 use Rattle.regrouping.proofs.listed.Reads as listed-reads
 
 -- src/lib.rt:63:41

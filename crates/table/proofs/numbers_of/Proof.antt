@@ -5,7 +5,7 @@ use Rattle.table.proofs.numbers_of.Statement.{statement}
 use Rattle.table.proofs.numbers_of.Tie as tie
 use Rattle.table.proofs.numbers_of.Reads as reads
 use Rattle.table.proofs.numbers_of.Lts as lts
-use Rattle.counts.proofs.amount.Reads as amount-reads
+use Rattle.totals.proofs.amount.Reads as amount-reads
 use Rattle.table.proofs.row.Reads as row-reads
 use Rattle.table.proofs.spans_of.Reads as spans-of-reads
 use Rattle.tree.proofs.cell.Reads as cell-reads

@@ -6,8 +6,8 @@ use Rattle.table.proofs.spans_of.Statement.{statement}
 use Rattle.table.proofs.spans_of.Tie as tie
 use Rattle.table.proofs.spans_of.Reads as reads
 use Rattle.table.proofs.spans_of.Lts as lts
-use Rattle.order.proofs.field_at.Reads as field-at-reads
-use Rattle.order.proofs.inherited1.Reads as inherited1-reads
+use Rattle.fields.proofs.field_at.Reads as field-at-reads
+use Rattle.routes.proofs.inherited1.Reads as inherited1-reads
 use Rattle.table.proofs.span_of.Reads as span-of-reads
 
 -- src/lib.rt:54:28

@@ -4,7 +4,7 @@ use Rattle.usage.proofs.in_both.Statement.{statement}
 use Rattle.usage.proofs.in_both.Tie as tie
 use Rattle.usage.proofs.in_both.Reads as reads
 use Rattle.usage.proofs.in_both.Lts as lts
-use Rattle.order.proofs.child.Reads as child-reads
+use Rattle.routes.proofs.child.Reads as child-reads
 use Rattle.tree.proofs.cell.Reads as cell-reads
 
 -- src/lib.rt:18:9

@@ -7,7 +7,7 @@ use Rattle.usage.proofs.in_neither.Statement.{statement}
 use Rattle.usage.proofs.in_neither.Tie as tie
 use Rattle.usage.proofs.in_neither.Reads as reads
 use Rattle.usage.proofs.in_neither.Lts as lts
-use Rattle.order.proofs.child.Reads as child-reads
+use Rattle.routes.proofs.child.Reads as child-reads
 use Rattle.tree.proofs.cell.Reads as cell-reads
 
 -- src/lib.rt:36:43

@@ -1,0 +1,2 @@
+-- What the judgement finds at a leaf.
+pub mod Judged

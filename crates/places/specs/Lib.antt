@@ -1,0 +1,3 @@
+-- A profile as numbers, and what comes of a child.
+pub mod Numbers
+pub mod Seek

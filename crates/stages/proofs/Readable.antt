@@ -1,0 +1,76 @@
+-- Where the walk of 6 to 8 refuses nothing, counts, sums and amounts can be read as numbers.
+use Prim.Native.Nat.{ℕ, _≤_}
+use mathlib.Core.List.{List, [], _∷_}
+use mathlib.Core.Bool.{Bool, true, false, _&&_}
+use mathlib.Core.Option.{Option, none, some}
+use mathlib.Core.Path.{_≡_, refl, sym, _∙_, ap}
+use borrow.Author.Tests.{le-leb, leb-true}
+use native.Mathlib.Omega.{arith}
+use lib.ListN.{length}
+use lib.Dec.{leb, eqb}
+use Rattle.paper.specs.Bytes.{if_then_else_, bytes, every, digit, same}
+use Rattle.paper.specs.Form.{Head, Element}
+use Rattle.paper.specs.Rows.{Row, rows, row-of, leaf, group, group-under, text, head-of}
+use Rattle.paper.specs.Values.{among, lies-from, digits, count, money, amount, cents, allowed}
+use Rattle.paper.specs.Payments.{Payment, text-of, child, follow, of-header, blocks, payments}
+use Rattle.paper.specs.Refusals.{longest-of, values-refusal, rows-at}
+use Rattle.paper.specs.Accepted.{All, all-none, all-more, RightText}
+use Rattle.paper.proofs.Laws.{both, both-left, both-right, all-map}
+use Rattle.acceptance.proofs.Arranged.{rows-of}
+use Rattle.acceptance.proofs.Routes.{takes}
+use Rattle.acceptance.proofs.RightValues.{RightAs, header-right, blocks-right, payments-right, block-leaf-right, amount-right}
+use Rattle.leaves.specs.Readable.{ReadBlock, ReadPayment, Readable}
+
+-- a right count of a row that takes at most fifteen bytes; right money; a right amount
+count-read : (parent k : ℕ) {h : Head} {w : List ℕ} → RightText parent (row-of rows parent k) h w → longest-of (row-of rows parent k .holds) ≡ 15
+    → ((currency : List ℕ) → allowed parent (row-of rows parent k .row) currency w ≡ count w) → digits 1 15 w ≡ true
+unfolding digits lies-from count
+count-read parent k {w = w} r l a =
+    both (both (le-leb 1 (length w) (r .not-empty)) (le-leb (length w) 15 (omega (arith, r .not-too-long, l))))
+    (both-right (leb 1 (length w)) (every digit w) (sym (a _) ∙ r .value))
+
+money-read : (parent k : ℕ) {h : Head} {w : List ℕ} → RightText parent (row-of rows parent k) h w
+    → ((currency : List ℕ) → allowed parent (row-of rows parent k .row) currency w ≡ money w) → money w ≡ true
+money-read parent k r a = sym (a _) ∙ r .value
+
+amount-read : {h : Head} {w : List ℕ} → RightText 41 (row-of rows 41 42) h w → amount w ≡ true
+unfolding allowed rows row-of leaf group group-under bytes among
+amount-read {h} {w} r = both-left (amount w) (same (h .currency) (bytes "EUR")) (r .value)
+
+amount-money : (w : List ℕ) → amount w ≡ true → money w ≡ true
+unfolding amount
+amount-money w e = both-left (money w) _ e
+
+pub amount-small : (w : List ℕ) → amount w ≡ true → cents w ≤ 99999999999
+unfolding amount lies-from
+amount-small w e = leb-true (cents w) 99999999999 (both-right (leb 1 (cents w)) _ (both-right (money w) _ e))
+
+module _ (root : Element) (right : values-refusal rows root ≡ none) where
+  header-count : (t : Element) → of-header rows 6 root ≡ some t → digits 1 15 (text-of t) ≡ true
+  unfolding allowed rows row-of leaf group group-under bytes among takes rows-of rows-at longest-of
+  header-count t e = count-read 3 6 (header-right root right 6 15 t refl refl e) refl (λ c. refl)
+
+  header-sum : (t : Element) → of-header rows 7 root ≡ some t → money (text-of t) ≡ true
+  unfolding allowed rows row-of leaf group group-under bytes among takes rows-of rows-at longest-of
+  header-sum t e = money-read 3 7 (header-right root right 7 18 t refl refl e) (λ c. refl)
+
+  in-block : (b : Element) → RightAs 2 10 b → ReadBlock b
+  unfolding allowed rows row-of leaf group group-under bytes among takes rows-of rows-at longest-of
+  in-block b c =
+      record {
+        count = λ t e. count-read 10 14 (block-leaf-right b c 14 15 t refl refl e) refl (λ _. refl);
+        sum = λ t e. money-read 10 15 (block-leaf-right b c 15 18 t refl refl e) (λ _. refl);
+      }
+
+  pub readable : Readable root
+  readable =
+      record {
+        header-count = header-count;
+        header-sum = header-sum;
+        in-blocks = all-map in-block (blocks-right root right);
+        in-payments = all-map (λ p c. record { amount = λ u e. amount-money (text-of u) (amount-read (amount-right (p .own) c u e)) }) (payments-right root right);
+      }
+
+  -- the amounts of the payments lie within row 42's limits
+  pub small-amounts : All (λ (p : Payment). (u : Element) → follow rows 37 (41 ∷ 42 ∷ []) (p .own) ≡ some u → cents (text-of u) ≤ 99999999999) (payments rows root)
+  small-amounts = all-map (λ p c u e. amount-small (text-of u) (amount-read (amount-right (p .own) c u e))) (payments-right root right)
