@@ -104,3 +104,8 @@ left-stays (refused-as r) old h = refl
 left-stays (accepted-with root) old h =
     let k = numbers-of-a-payment * length (payments rows root) in
     left-again (all-numbers rows (payments rows root)) (drop (4 * k) old) ∙ left-drop k old (h root refl)
+
+-- 999,999,999 euros, as they stand in the table
+an-amount : four-bytes 999999999 ≡ 59 ∷ 154 ∷ 201 ∷ 255 ∷ []
+unfolding four-bytes
+an-amount = refl

@@ -9,9 +9,10 @@ use borrow.Author.Tests.{lt-ltb, le-ltb}
 use lib.ListN.{length}
 use Rattle.paper.specs.Form.{Element, IsMessage, FirstImpossible, OfTheForm as IsOfTheForm}
 use Rattle.paper.specs.Reading.{read, root-is, stops-at}
-use Rattle.paper.specs.Rows.{rows}
+use Rattle.paper.specs.Rows.{rows, row-of}
 use Rattle.paper.specs.Payments.{blocks, payments, total}
-use Rattle.paper.specs.Refusals.{Refusal, refuse, _or-else_, size-refusal, largest-message, Outcome, refused-as, accepted-with, unless-refused, of-reading, outcome-alone, tree-refusal, rows-refusal, limits-refusal, values-refusal, usage-refusal, ids-refusal, total-refusal, counts-refusal}
+use Rattle.paper.specs.Refusals.{Refusal, refuse, _or-else_, size-refusal, largest-message, Outcome, refused-as, accepted-with, unless-refused, of-reading, outcome-alone, tree-refusal, rows-refusal, limits-refusal, values-refusal, usage-refusal, ids-refusal, total-refusal, counts-refusal, no-judgement, leaf-refusal}
+use Rattle.paper.specs.Accepted.{AnyText}
 use Rattle.paper.specs.Answers.{refusal-of, numbered, refusal-found}
 use Rattle.paper.specs.declared.Fault.{Fault}
 use Rattle.paper.specs.declared.Fault.the-variants.{MessageTooLong, NotOfTheForm, TooMany, TotalTooLarge}
@@ -19,6 +20,8 @@ use Rattle.paper.specs.declared.Finding.{Finding}
 use Rattle.paper.specs.declared.Finding.the-variants as finding
 use Rattle.paper.specs.declared.Verdict.{Verdict}
 use Rattle.paper.specs.declared.Verdict.the-variants.{Accepted, Refused}
+use Rattle.acceptance.proofs.Rows.{walk-conforms, conforms-walk}
+use Rattle.acceptance.proofs.Apart.{rows-apart}
 use Rattle.form.proofs.Sound.{sound}
 use Rattle.form.proofs.Decides.{refusal-is-stop, form-is-root}
 use Rattle.form.specs.Answers.{Says}
@@ -76,6 +79,9 @@ found-none : {f : Finding} {a : Option Refusal} → refusal-found f ≡ a → f 
 unfolding refusal-found
 found-none e d = sym e ∙ rw d
 
+pub found-as : {f g : Finding} {a : Option Refusal} → refusal-found f ≡ a → f ≡ g → refusal-found g ≡ a
+found-as e d = sym (ap refusal-found d) ∙ e
+
 module _ {s tree order : List ℕ} {root : Element} {f : Finding} (a b : Option Refusal) (is : refusal-found f ≡ a) where
   pub first-refuses : {x : Fault} → f ≡ finding.Refused x → Passes s tree order root (a or-else b) (Refused x)
   unfolding _or-else_
@@ -126,16 +132,27 @@ the-total h e = total-fits h e .1
 pub no-values-refusal : (root : Element) {f : Finding} → refusal-found f ≡ values-refusal rows root → f ≡ finding.Nothing → values-refusal rows root ≡ none
 no-values-refusal root e d = found-none e d
 
--- 3 and 4, then 5
-module _ {s tree order : List ℕ} {root : Element} {f : Finding} (is : refusal-found f ≡ rows-refusal rows root) where
-  pub rows-refused : {x : Fault} → f ≡ finding.Refused x → Passes s tree order root (tree-refusal rows root) (Refused x)
-  unfolding tree-refusal
-  rows-refused d = first-refuses _ _ is d
+-- 3 and 4: where the walk for 6 to 8 finds nothing, that for 3 and 4 does not either
+pub rows-too : (root : Element) → values-refusal rows root ≡ none → rows-refusal rows root ≡ none
+unfolding values-refusal rows-refusal no-judgement
+rows-too root e =
+    conforms-walk rows no-judgement AnyText (λ parent r h w c. refl) rows-apart root 0 (row-of rows 0 1) (rows-apart 0 1)
+    (walk-conforms rows leaf-refusal AnyText (λ parent r h w n. record {}) root 0 (row-of rows 0 1) e)
 
-  module _ {l : Limits} (within : Limited s tree order root l) (d : f ≡ finding.Nothing) where
+pub rows-refused : {s tree order : List ℕ} {root : Element} {f : Finding} → refusal-found f ≡ rows-refusal rows root → {x : Fault} → f ≡ finding.Refused x
+    → Passes s tree order root (tree-refusal rows root) (Refused x)
+unfolding tree-refusal
+rows-refused is d = first-refuses _ _ is d
+
+pub no-rows-refusal : (root : Element) {f : Finding} → refusal-found f ≡ rows-refusal rows root → f ≡ finding.Nothing → rows-refusal rows root ≡ none
+no-rows-refusal root e d = found-none e d
+
+-- then 5
+module _ {s tree order : List ℕ} {root : Element} (none-of-rows : rows-refusal rows root ≡ none) where
+  module _ {l : Limits} (within : Limited s tree order root l) where
     pub limits-refused : {element offset : ℕ} → l ≡ Excess element offset → Passes s tree order root (tree-refusal rows root) (Refused (TooMany element offset))
     unfolding tree-refusal _or-else_ refuse refusal-of numbered
-    limits-refused {element} {offset} e = later-passes _ _ is d (go within e)
+    limits-refused {element} {offset} e = rw none-of-rows (go within e)
       where
         go : {l : Limits} → Limited s tree order root l → l ≡ Excess element offset
             → Passes s tree order root (limits-refusal rows root or-else (values-refusal rows root or-else (usage-refusal rows root or-else (ids-refusal rows root or-else (total-refusal rows root or-else counts-refusal rows root)))))
@@ -151,7 +168,7 @@ module _ {s tree order : List ℕ} {root : Element} {f : Finding} (is : refusal-
         → Passes s tree order root (values-refusal rows root or-else (usage-refusal rows root or-else (ids-refusal rows root or-else (total-refusal rows root or-else counts-refusal rows root)))) v)
         → Passes s tree order root (tree-refusal rows root) v
     unfolding tree-refusal _or-else_
-    limits-passed {b} {p} {v} e room then = later-passes _ _ is d (go within e)
+    limits-passed {b} {p} {v} e room then = rw none-of-rows (go within e)
       where
         go : {l : Limits} → Limited s tree order root l → l ≡ Within b p
             → Passes s tree order root (limits-refusal rows root or-else (values-refusal rows root or-else (usage-refusal rows root or-else (ids-refusal rows root or-else (total-refusal rows root or-else counts-refusal rows root))))) v

@@ -12,7 +12,8 @@ ghost use lib.ListN.{length};
 ghost use Rattle.paper.specs.Form.{Element};
 ghost use Rattle.paper.specs.Rows.{rows};
 ghost use Rattle.paper.specs.Payments.{blocks as all-blocks, payments as all-payments};
-ghost use Rattle.paper.specs.Refusals.{tree-refusal, values-refusal, usage-refusal, ids-refusal, total-refusal, counts-refusal, _or-else_};
+ghost use Rattle.paper.specs.Refusals.{tree-refusal, rows-refusal, values-refusal, usage-refusal, ids-refusal, total-refusal, counts-refusal, _or-else_};
+ghost use Rattle.paper.specs.Answers.{refusal-found};
 ghost use Rattle.tree.specs.Laid.{Laid};
 ghost use Rattle.order.specs.Ordered.{Ordered};
 ghost use Rattle.stages.specs.Decided.{Shaped, Passes, Decided};
@@ -54,11 +55,17 @@ fn sums(s: &[u8], tree: &[u16], order: &[u16], blocks: usize, payments: usize) -
     }
 }
 
-// 6 to 8, 9 and 10, 11, and what follows.
-fn judged(s: &[u8], tree: &[u16], order: &[u16], blocks: usize, payments: usize) -> Verdict
-    ensures { λ r. ⌜ ((root : Element) (next : ℕ) → Laid (now (s .entry)) (now (tree .entry)) root 0 next → Ordered (now (s .entry)) (now (tree .entry)) (now (order .entry)) root → blocks ≡ length (all-blocks rows root) → payments ≡ length (all-payments rows root) → payments ≤ 64 → blocks ≤ 16 → Passes (now (s .entry)) (now (tree .entry)) (now (order .entry)) root (values-refusal rows root or-else usage-refusal rows root or-else ids-refusal rows root or-else total-refusal rows root or-else counts-refusal rows root) r) ⌝ }
+// 6 to 8, as a walk over the rows found them; then 9 and 10, 11, and what follows.
+fn judged(
+    s: &[u8],
+    tree: &[u16],
+    order: &[u16],
+    blocks: usize,
+    payments: usize,
+    values: Finding,
+) -> Verdict
+    ensures { λ r. ⌜ ((root : Element) (next : ℕ) → Laid (now (s .entry)) (now (tree .entry)) root 0 next → refusal-found values ≡ values-refusal rows root → Ordered (now (s .entry)) (now (tree .entry)) (now (order .entry)) root → blocks ≡ length (all-blocks rows root) → payments ≡ length (all-payments rows root) → payments ≤ 64 → blocks ≤ 16 → Passes (now (s .entry)) (now (tree .entry)) (now (order .entry)) root (values-refusal rows root or-else usage-refusal rows root or-else ids-refusal rows root or-else total-refusal rows root or-else counts-refusal rows root) r) ⌝ }
 {
-    let values = rows::check(s, tree, true);
     if let Finding::Refused(fault) = values {
         return Verdict::Refused(fault);
     }
@@ -73,18 +80,31 @@ fn judged(s: &[u8], tree: &[u16], order: &[u16], blocks: usize, payments: usize)
     sums(s, tree, order, blocks, payments)
 }
 
-// 3 and 4, 5, and what follows.
-fn stages(s: &[u8], tree: &[u16], order: &mut [u16]) -> Verdict
-    ensures { λ r. ⌜ ((root : Element) (next : ℕ) → Laid (now (s .entry)) (now (tree .entry)) root 0 next → 208 ≤ length (now (order .entry)) → Passes (now (s .entry)) (now (tree .entry)) (now (order .exit)) root (tree-refusal rows root) r) ⌝ }
+// 5, and what follows.
+fn limited(s: &[u8], tree: &[u16], order: &mut [u16], values: Finding) -> Verdict
+    ensures { λ r. ⌜ ((root : Element) (next : ℕ) → Laid (now (s .entry)) (now (tree .entry)) root 0 next → 208 ≤ length (now (order .entry)) → rows-refusal rows root ≡ none → refusal-found values ≡ values-refusal rows root → Passes (now (s .entry)) (now (tree .entry)) (now (order .exit)) root (tree-refusal rows root) r) ⌝ }
 {
-    let shape = rows::check(s, tree, false);
-    if let Finding::Refused(fault) = shape {
-        return Verdict::Refused(fault);
-    }
     let limits = order::order(s, tree, order);
     match limits {
         Limits::Excess { element, offset } => Verdict::Refused(Fault::TooMany { element, offset }),
-        Limits::Within { blocks, payments } => judged(s, tree, order, blocks, payments),
+        Limits::Within { blocks, payments } => judged(s, tree, order, blocks, payments, values),
+    }
+}
+
+// 3 and 4, and what follows. The walk for 6 to 8 finds those of 3 and 4 as well: only where it finds something, a walk of their own looks for them.
+fn stages(s: &[u8], tree: &[u16], order: &mut [u16]) -> Verdict
+    ensures { λ r. ⌜ ((root : Element) (next : ℕ) → Laid (now (s .entry)) (now (tree .entry)) root 0 next → 208 ≤ length (now (order .entry)) → Passes (now (s .entry)) (now (tree .entry)) (now (order .exit)) root (tree-refusal rows root) r) ⌝ }
+{
+    let values = rows::check(s, tree, true);
+    match values {
+        Finding::Nothing => limited(s, tree, order, Finding::Nothing),
+        Finding::Refused(fault) => {
+            let shape = rows::check(s, tree, false);
+            if let Finding::Refused(first) = shape {
+                return Verdict::Refused(first);
+            }
+            limited(s, tree, order, Finding::Refused(fault))
+        }
     }
 }
 

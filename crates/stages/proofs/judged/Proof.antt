@@ -1,4 +1,3 @@
-use Rattle.rows.specs.Walk.{refusal-by}
 use Rattle.stages.proofs.InTurn.{first-refuses, later-passes, no-values-refusal}
 use borrow.Author.Needs.{needs}
 use Rattle.stages.proofs.judged.Statement.{statement}
@@ -7,71 +6,61 @@ use Rattle.stages.proofs.judged.Reads as reads
 use Rattle.stages.proofs.judged.Lts as lts
 use Rattle.ids.proofs.ids.Reads as ids-reads
 use Rattle.stages.proofs.sums.Reads as sums-reads
-use Rattle.rows.proofs.check.Reads as check-reads
 use Rattle.usage.proofs.usage.Reads as usage-reads
 
--- src/lib.rt:61:9
-check-requires : tie.Need-check-requires
-check-requires c κs = search needs
-
--- src/lib.rt:62:29
+-- src/lib.rt:69:29
 enum-known-values : tie.Need-enum-known-values
 enum-known-values c = search needs
 
--- src/lib.rt:63:9
+-- src/lib.rt:70:9
 returns : tie.Need-returns
-unfolding refusal-by
-returns c = λ root next l o b p few small. first-refuses _ _ (c .before .before .before .check .ensures root next l) (c .before .values .given .1)
+returns c = λ root next l v o b p few small. first-refuses _ _ v (c .before .values .given .1)
 
 enum-told : tie.Need-enum-told
 enum-told c = search needs
 
--- src/lib.rt:65:9
+-- src/lib.rt:72:9
 usage-requires : tie.Need-usage-requires
 usage-requires c κs = search needs
 
--- src/lib.rt:66:29
+-- src/lib.rt:73:29
 enum-known-usage : tie.Need-enum-known-usage
 enum-known-usage c = search needs
 
--- src/lib.rt:67:9
+-- src/lib.rt:74:9
 returns-2 : tie.Need-returns-2
-unfolding refusal-by
-returns-2 c = λ root next l o b p few small. later-passes _ _ (c .before .before .before .before .before .before .check .ensures root next l) (c .before .before .before .before .enum-told .given .1) (first-refuses _ _ (c .before .before .before .usage .ensures root o p few) (c .before .usage2 .given .1))
+returns-2 c = λ root next l v o b p few small. later-passes _ _ v (c .before .before .before .before .enum-told .given .1) (first-refuses _ _ (c .before .before .before .usage .ensures root o p few) (c .before .usage2 .given .1))
 
 enum-told-2 : tie.Need-enum-told-2
 enum-told-2 c = search needs
 
--- src/lib.rt:69:9
+-- src/lib.rt:76:9
 ids-requires : tie.Need-ids-requires
 ids-requires c κs = search needs
 
--- src/lib.rt:70:29
+-- src/lib.rt:77:29
 enum-known-ids : tie.Need-enum-known-ids
 enum-known-ids c = search needs
 
--- src/lib.rt:71:9
+-- src/lib.rt:78:9
 returns-3 : tie.Need-returns-3
-unfolding refusal-by
-returns-3 c = λ root next l o b p few small. later-passes _ _ (c .before .before .before .before .before .before .before .before .before .check .ensures root next l) (c .before .before .before .before .before .before .before .enum-told .given .1) (later-passes _ _ (c .before .before .before .before .before .before .usage .ensures root o p few) (c .before .before .before .before .enum-told2 .given .1) (first-refuses _ _ (c .before .before .before .ids .ensures root o b) (c .before .ids2 .given .1)))
+returns-3 c = λ root next l v o b p few small. later-passes _ _ v (c .before .before .before .before .before .before .before .enum-told .given .1) (later-passes _ _ (c .before .before .before .before .before .before .usage .ensures root o p few) (c .before .before .before .before .enum-told2 .given .1) (first-refuses _ _ (c .before .before .before .ids .ensures root o b) (c .before .ids2 .given .1)))
 
 enum-told-3 : tie.Need-enum-told-3
 enum-told-3 c = search needs
 
--- src/lib.rt:73:5
+-- src/lib.rt:80:5
 sums-requires : tie.Need-sums-requires
 sums-requires c κs = search needs
 
--- src/lib.rt:58:1
+-- src/lib.rt:59:1
 returns-4 : tie.Need-returns-4
-unfolding refusal-by
-returns-4 c = λ root next l o b p few small. later-passes _ _ (c .before .before .before .before .before .before .before .before .before .check .ensures root next l) (c .before .before .before .before .before .before .before .enum-told .given .1) (later-passes _ _ (c .before .before .before .before .before .before .usage .ensures root o p few) (c .before .before .before .before .enum-told2 .given .1) (later-passes _ _ (c .before .before .before .ids .ensures root o b) (c .before .enum-told3 .given .1) (c .sums .ensures root next l o b p few (no-values-refusal root (c .before .before .before .before .before .before .before .before .before .check .ensures root next l) (c .before .before .before .before .before .before .before .enum-told .given .1)) small)))
+returns-4 c = λ root next l v o b p few small. later-passes _ _ v (c .before .before .before .before .before .before .before .enum-told .given .1) (later-passes _ _ (c .before .before .before .before .before .before .usage .ensures root o p few) (c .before .before .before .before .enum-told2 .given .1) (later-passes _ _ (c .before .before .before .ids .ensures root o b) (c .before .enum-told3 .given .1) (c .sums .ensures root next l o b p few (no-values-refusal root v (c .before .before .before .before .before .before .before .enum-told .given .1)) small)))
 
 pub judged-spec : {M : Type 1} → statement M
 judged-spec =
     tie.close
     (tie.spec
-    check-requires
     enum-known-values
     returns
     enum-told

@@ -1,77 +1,80 @@
-use native.Mathlib.Omega.{arith}
 use Rattle.rows.specs.Walk.{refusal-by}
-use Rattle.stages.proofs.InTurn.{rows-refused, limits-refused, limits-passed, few-payments, few-blocks}
+use Rattle.stages.proofs.InTurn.{rows-refused, rows-too, no-rows-refusal, no-values-refusal, found-as}
 use borrow.Author.Needs.{needs}
 use Rattle.stages.proofs.stages.Statement.{statement}
 use Rattle.stages.proofs.stages.Tie as tie
 use Rattle.stages.proofs.stages.Reads as reads
 use Rattle.stages.proofs.stages.Lts as lts
-use Rattle.order.proofs.order.Reads as order-reads
-use Rattle.stages.proofs.judged.Reads as judged-reads
 use Rattle.rows.proofs.check.Reads as check-reads
+use Rattle.stages.proofs.limited.Reads as limited-reads
 
--- src/lib.rt:80:9
+-- src/lib.rt:98:9
 check-requires : tie.Need-check-requires
 check-requires c κs = search needs
 
--- src/lib.rt:81:29
-enum-known-shape : tie.Need-enum-known-shape
-enum-known-shape c = search needs
-
--- src/lib.rt:82:9
-returns : tie.Need-returns
-unfolding refusal-by
-returns c = λ root next l room. rows-refused (c .before .before .before .check .ensures root next l) (c .before .shape .given .1)
-
+-- src/lib.rt:100:46
 enum-told : tie.Need-enum-told
 enum-told c = search needs
 
--- src/lib.rt:84:9
-order-requires : tie.Need-order-requires
-order-requires c κs = search needs
+-- src/lib.rt:100:29
+limited-requires : tie.Need-limited-requires
+limited-requires c κs = search needs
 
--- src/lib.rt:86:26
-enum-known-limits : tie.Need-enum-known-limits
-enum-known-limits c = search needs
+-- src/lib.rt:101:26
+enum-known-values : tie.Need-enum-known-values
+enum-known-values c = search needs
 
--- src/lib.rt:87:26
-enum-known-limits-2 : tie.Need-enum-known-limits-2
-enum-known-limits-2 c = search needs
+-- src/lib.rt:102:17
+check-requires-2 : tie.Need-check-requires-2
+check-requires-2 c κs = search needs
 
--- src/lib.rt:87:48
-judged-requires : tie.Need-judged-requires
-judged-requires c κs = search needs
+-- src/lib.rt:103:37
+enum-known-shape : tie.Need-enum-known-shape
+enum-known-shape c = search needs
 
--- src/lib.rt:77:1
+-- src/lib.rt:104:17
+returns : tie.Need-returns
+unfolding refusal-by
+returns c = λ root next l room. rows-refused (c .before .before .before .check2 .ensures root next l) (c .before .shape .given .1)
+
+enum-told-2 : tie.Need-enum-told-2
+enum-told-2 c = search needs
+
+-- src/lib.rt:106:13
+limited-requires-2 : tie.Need-limited-requires-2
+limited-requires-2 c κs = search needs
+
+-- src/lib.rt:95:1
 same-length : tie.Need-same-length
 same-length c = search needs
 
--- src/lib.rt:77:1
+-- src/lib.rt:95:1
 returns-2 : tie.Need-returns-2
 unfolding refusal-by
-returns-2 c = λ root next l room. limits-refused (c .before .before .before .before .before .before .before .before .before .check .ensures root next l) (c .before .before .before .before .before .order .ensures .1 root next l) (c .before .before .before .before .before .before .before .enum-told .given .1) (c .before .limits .given .1)
+returns-2 c = λ root next l room. c .before .before .limited .ensures root next l room (rows-too root (no-values-refusal root (c .before .before .before .before .before .before .check .ensures root next l) (c .before .before .before .before .enum-told .given .1))) (found-as (c .before .before .before .before .before .before .check .ensures root next l) (c .before .before .before .before .enum-told .given .1))
 
--- src/lib.rt:77:1
+-- src/lib.rt:95:1
 same-length-2 : tie.Need-same-length-2
 same-length-2 c = search needs
 
--- src/lib.rt:77:1
+-- src/lib.rt:95:1
 returns-3 : tie.Need-returns-3
 unfolding refusal-by
-returns-3 c = λ root next l room. limits-passed (c .before .before .before .before .before .before .before .before .before .before .before .check .ensures root next l) (c .before .before .before .before .before .before .before .order .ensures .1 root next l) (c .before .before .before .before .before .before .before .before .before .enum-told .given .1) (c .before .before .before .limits2 .given .1) (omega (arith, c .before .before .before .before .before .before .before .order .kept .1 .1 .0)) (λ o b p. c .judged .ensures root next l o b p (few-payments (c .before .before .before .before .before .before .before .order .ensures .0) (c .before .before .before .limits2 .given .1)) (few-blocks (c .before .before .before .before .before .before .before .order .ensures .0) (c .before .before .before .limits2 .given .1)))
+returns-3 c = λ root next l room. c .before .before .limited2 .ensures root next l room (no-rows-refusal root (c .before .before .before .before .before .before .check2 .ensures root next l) (c .before .before .before .before .enum-told2 .given .1)) (found-as (c .before .before .before .before .before .before .before .before .before .before .check .ensures root next l) (c .before .before .before .before .before .before .before .before .values .given .1))
 
 pub stages-spec : {M : Type 1} → statement M
 stages-spec =
     tie.close
     (tie.spec
     check-requires
+    enum-told
+    limited-requires
+    enum-known-values
+    check-requires-2
     enum-known-shape
     returns
-    enum-told
-    order-requires
-    enum-known-limits
-    enum-known-limits-2
-    judged-requires
+    enum-told-2
+    limited-requires-2
     same-length
     returns-2
     same-length-2

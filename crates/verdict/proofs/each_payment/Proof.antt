@@ -1,0 +1,42 @@
+use Prim.Native.Nat.{_≤_, _-_}
+use borrow.Author.Needs.{needs}
+use Rattle.verdict.proofs.each_payment.Statement.{statement}
+use Rattle.verdict.proofs.each_payment.Tie as tie
+use Rattle.verdict.proofs.each_payment.Reads as reads
+use Rattle.verdict.proofs.each_payment.Lts as lts
+use Rattle.verdict.proofs.payment.Reads as payment-reads
+
+abbrev Inv-loop : tie.InvT-loop
+Inv-loop message table payments i₀ i = i ≤ payments
+
+abbrev μ-loop : tie.MeasureT-loop
+μ-loop message table payments i₀ i = payments - i
+
+-- src/main.rt:62:5
+loop-holds : tie.Need-loop-holds Inv-loop μ-loop
+loop-holds c = search needs
+
+-- src/main.rt:63:9
+payment-requires : tie.Need-payment-requires Inv-loop μ-loop
+payment-requires c κs = search needs
+
+-- src/main.rt:64:9
+add-i : tie.Need-add-i Inv-loop μ-loop
+add-i c = search needs
+
+-- src/main.rt:62:5
+loop-less : tie.Need-loop-less Inv-loop μ-loop
+loop-less c = search needs
+
+-- src/main.rt:62:5
+loop-again : tie.Need-loop-again Inv-loop μ-loop
+loop-again c = search needs
+
+-- src/main.rt:60:1
+returns : tie.Need-returns Inv-loop μ-loop
+returns c = search needs
+
+pub each-payment-spec : {M : Type 1} → statement M
+each-payment-spec =
+    tie.close
+    (tie.spec Inv-loop μ-loop loop-holds payment-requires add-i loop-less loop-again returns)
