@@ -47,10 +47,10 @@ fn show(name: &[u8], s: &[u8]) {
 
 // The case at an offset. Answers the offset of the next.
 fn case_at(s: &[u8], at: usize) -> usize {
-    let name = parts::part_at(s, at);
+    let name = frames::part_at(s, at);
     let a = name.start;
     let b = name.end;
-    let text = parts::part_at(s, b + 1);
+    let text = frames::part_at(s, b + 1);
     let c = text.start;
     let d = text.end;
     show(&s[a..b], &s[c..d]);

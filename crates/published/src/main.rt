@@ -5,7 +5,7 @@ ghost use lib.ListN.{length};
 
 // The verdict of the message at an offset. Answers the offset of the next case.
 fn verdict_at(s: &[u8], at: usize, table: &mut [u32]) -> usize {
-    let message = parts::part_at(s, at);
+    let message = frames::part_at(s, at);
     let a = message.start;
     let b = message.end;
     printing::message(answers::of_message(reader::verdict(&s[a..b], table)));
@@ -14,13 +14,13 @@ fn verdict_at(s: &[u8], at: usize, table: &mut [u32]) -> usize {
 
 // The regrouping of the parts at an offset. Answers the offset of the next case.
 fn regrouping_at(s: &[u8], at: usize) -> usize {
-    let first = parts::part_at(s, at);
+    let first = frames::part_at(s, at);
     let a = first.start;
     let b = first.end;
-    let second = parts::part_at(s, b + 1);
+    let second = frames::part_at(s, b + 1);
     let c = second.start;
     let d = second.end;
-    let list = parts::part_at(s, d + 1);
+    let list = frames::part_at(s, d + 1);
     let e = list.start;
     let f = list.end;
     printing::regrouping(answers::of_regrouping(regrouping::regroup(&s[a..b], &s[c..d], &s[e..f])));
@@ -32,7 +32,7 @@ fn case_at(s: &[u8], at: usize, table: &mut [u32]) -> usize
     requires { ⌜ at < length (now s) ⌝ }
 {
     let kind = s[at];
-    let name = parts::part_at(s, at + 1);
+    let name = frames::part_at(s, at + 1);
     let a = name.start;
     let b = name.end;
     printing::text(&s[a..b]);

@@ -1,8 +1,8 @@
 -- `published::number` is safe and ends. The number is looked at before it is multiplied, so it stays small.
 use borrow.Author.Needs.{needs}
 use Prim.Native.Nat.{_-_, _≤_}
-use Rattle.parts.proofs.number.Statement.{statement}
-use Rattle.parts.proofs.number.Tie as tie
+use Rattle.frames.proofs.number.Statement.{statement}
+use Rattle.frames.proofs.number.Tie as tie
 
 abbrev Inv-loop : tie.InvT-loop
 Inv-loop s at end n₀ i₀ n i = n ≤ 200000

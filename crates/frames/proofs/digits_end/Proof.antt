@@ -2,8 +2,8 @@
 use borrow.Author.Needs.{needs}
 use Prim.Native.Nat.{_-_}
 use lib.ListN.{length}
-use Rattle.parts.proofs.digits_end.Statement.{statement}
-use Rattle.parts.proofs.digits_end.Tie as tie
+use Rattle.frames.proofs.digits_end.Statement.{statement}
+use Rattle.frames.proofs.digits_end.Tie as tie
 
 abbrev Inv-loop : tie.InvT-loop
 Inv-loop s at i₀ i = Unit {0}
