@@ -19,8 +19,8 @@ use Rattle.paper.specs.declared.Finding.{Finding}
 use Rattle.paper.specs.declared.Finding.the-variants as finding
 use Rattle.paper.specs.declared.Verdict.{Verdict}
 use Rattle.paper.specs.declared.Verdict.the-variants.{Accepted, Refused}
-use Rattle.form.proofs.Sound.{sound}
-use Rattle.form.proofs.Decides.{refusal-is-stop, form-is-root}
+use Rattle.grammar.proofs.Sound.{sound}
+use Rattle.grammar.proofs.Decides.{refusal-is-stop, form-is-root}
 use Rattle.form.specs.Answers.{Says}
 use Rattle.form.specs.declared.Form.{Form}
 use Rattle.form.specs.declared.Form.the-variants.{OfTheForm, RefusedAt}
