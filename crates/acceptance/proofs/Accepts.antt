@@ -7,8 +7,8 @@ use Rattle.paper.specs.Form.{Element}
 use Rattle.paper.specs.Rows.{Row, rows, row-of}
 use Rattle.paper.specs.Refusals.{Outcome, refused-as, accepted-with, outcome-alone, outcome, least-table}
 use Rattle.paper.specs.Accepted.{Accepted}
-use Rattle.form.proofs.Complete.{complete}
-use Rattle.form.proofs.Sound.{sound}
+use Rattle.grammar.proofs.Complete.{complete}
+use Rattle.grammar.proofs.Sound.{sound}
 use Rattle.acceptance.proofs.Rows.{RowsApart}
 use Rattle.acceptance.proofs.Apart.{rows-apart}
 use Rattle.acceptance.proofs.Outcome.{accepted-alone, accepted-with-table}

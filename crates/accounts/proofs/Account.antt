@@ -2,21 +2,15 @@
 use Prim.Native.Nat.{ℕ, suc, _+_, _*_, _-_, _/_, _%_, _<_}
 use mathlib.Core.Path.{_≡_, refl, ap, sym, _∙_}
 use mathlib.Core.List.{List, [], _∷_, _++_}
-use mathlib.Core.Bool.{Bool, true, false, _&&_, _||_}
+use mathlib.Core.Bool.{Bool, true, false}
 use native.Mathlib.Nat.{mod-mod, mod-eq-of-lt, add-mul, mul-assoc, div-add-mod, add-mul-mod-self-left}
 use native.Mathlib.Omega.{arith}
 use lib.ListN.{length, getD, take, drop}
 use lib.Seq.{take-all}
-use lib.Dec.{eqb}
-use Rattle.paper.specs.Bytes.{if_then_else_, digit, same}
-use Rattle.paper.specs.Values.{read-after, moved, Country, of-a-country, number-after, number}
-use Rattle.paper.specs.Refusals.{among-texts}
-use Rattle.accounts.specs.Remainders.{read-one, remainder-after, letters-of}
-use Rattle.texts.proofs.Laws.{rest-is, same-swap}
-
-or-false : (b : Bool) → (b || false) ≡ b
-or-false true = refl
-or-false false = refl
+use Rattle.paper.specs.Bytes.{if_then_else_, digit}
+use Rattle.paper.specs.Values.{read-after, moved, number-after, number}
+use Rattle.accounts.specs.Remainders.{read-one, remainder-after}
+use Rattle.texts.proofs.Laws.{rest-is}
 
 -- of a number, only its remainder counts for the remainder of a multiple and some more
 held : (m k d : ℕ) → (m * k + d) % 97 ≡ (m % 97 * k + d) % 97
@@ -108,28 +102,3 @@ pub remainder-ends : (r : ℕ) (s : List ℕ) → length s ≡ 0 → remainder-a
 unfolding remainder-after
 remainder-ends r [] h = refl
 remainder-ends r (b ∷ s) h = absurd (omega arith)
-
--- a country by its letters and the whole length
-pub of-a-country-is : (cs : List Country) (w : List ℕ) → of-a-country cs w ≡ among-texts (take 2 w) (letters-of cs (length w))
-unfolding of-a-country letters-of among-texts
-of-a-country-is [] w = refl
-of-a-country-is (c ∷ cs) w = rw (of-a-country-is cs w, same-swap (c .letters) (take 2 w)) (by (eqb (length w) (c .size)) (same (take 2 w) (c .letters)) refl)
-  where
-    others : List (List ℕ)
-    others = letters-of cs (length w)
-
-    by :
-        (fits it : Bool) → same (take 2 w) (c .letters) ≡ it →
-        ((it && fits) || among-texts (take 2 w) others) ≡ among-texts (take 2 w) ((if fits then c .letters ∷ [] else []) ++ others)
-    by true true e = rw e
-    by true false e = rw e
-    by false true e = refl
-    by false false e = refl
-
-pub only-text : (t v : List ℕ) → among-texts t (v ∷ []) ≡ same t v
-unfolding among-texts
-only-text t v = or-false (same t v)
-
-pub either-text : (t v u : List ℕ) → among-texts t (v ∷ u ∷ []) ≡ (same t v || same t u)
-unfolding among-texts
-either-text t v u = ap (λ (b : Bool). same t v || b) (or-false (same t u))

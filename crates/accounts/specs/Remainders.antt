@@ -1,9 +1,7 @@
 -- The rules of an account as code takes them; proofs/Account.antt shows that they are the paper's.
 use Prim.Native.Nat.{ℕ, _+_, _*_, _-_, _%_}
-use mathlib.Core.List.{List, [], _∷_, _++_}
-use lib.Dec.{eqb}
+use mathlib.Core.List.{List, [], _∷_}
 use Rattle.paper.specs.Bytes.{if_then_else_, digit}
-use Rattle.paper.specs.Values.{Country}
 
 -- one character more behind a number: a digit as itself, A to Z as 10 to 35
 unfoldable pub read-one : (n b : ℕ) → ℕ
@@ -13,8 +11,3 @@ read-one n b = if digit b then n * 10 + (b - 48) else n * 100 + (b - 65 + 10)
 unfoldable pub remainder-after : ℕ → List ℕ → ℕ
 remainder-after r [] = r
 remainder-after r (b ∷ s) = remainder-after (read-one r b % 97) s
-
--- the letters of the countries whose accounts have this whole length
-unfoldable pub letters-of : List Country → (size : ℕ) → List (List ℕ)
-letters-of [] n = []
-letters-of (c ∷ cs) n = (if eqb n (c .size) then c .letters ∷ [] else []) ++ letters-of cs n

@@ -1,43 +1,8 @@
-// BICs and IBANs. A text is a part of the message.
+// IBANs. A text is a part of the message.
 ghost use mathlib.Core.Path.{_≡_};
 ghost use Prim.Native.Nat.{_<_, _%_};
-ghost use Rattle.paper.specs.Values.{bic, countries, iban};
-ghost use Rattle.paper.specs.Refusals.{among-texts};
-ghost use Rattle.accounts.specs.Remainders.{read-one, remainder-after, letters-of};
-
-// Row 31: four capitals or digits, two capitals, two or five capitals or digits; never `NOTPROVIDED`.
-pub fn bic(s: &[u8]) -> bool
-    ensures { λ r. ⌜ r ≡ bic (now (s .entry)) ⌝ }
-{
-    if texts::shaped(b"XXXXAAXX", s) {
-        return !texts::same(s, b"NOTPROVIDED");
-    }
-    if !texts::shaped(b"XXXXAAXXXXX", s) {
-        return false;
-    }
-    !texts::same(s, b"NOTPROVIDED")
-}
-
-// The country's letters go with this whole length.
-fn country(letters: &[u8], size: usize) -> bool
-    ensures { λ r. ⌜ r ≡ among-texts (now (letters .entry)) (letters-of countries size) ⌝ }
-{
-    match size {
-        16 => texts::same(letters, b"BE"),
-        18 => texts::either(letters, b"FI", b"NL"),
-        20 => texts::either(letters, b"AT", b"LU"),
-        22 => texts::either(letters, b"DE", b"IE"),
-        24 => texts::same(letters, b"ES"),
-        25 => texts::same(letters, b"PT"),
-        27 => {
-            if texts::same(letters, b"FR") {
-                return true;
-            }
-            texts::either(letters, b"GR", b"IT")
-        }
-        _ => false,
-    }
-}
+ghost use Rattle.paper.specs.Values.{iban};
+ghost use Rattle.accounts.specs.Remainders.{read-one, remainder-after};
 
 // One character more behind a number of which only the remainder by 97 is held: a digit as itself, A to Z as 10 to 35.
 fn step(so_far: u64, b: u8) -> u64
@@ -80,7 +45,7 @@ pub fn iban(s: &[u8]) -> bool
     if !texts::every(b'X', rest) {
         return false;
     }
-    if !country(&s[..2], s.len()) {
+    if !countries::country(&s[..2], s.len()) {
         return false;
     }
     remainder(remainder(0, rest), head) == 1

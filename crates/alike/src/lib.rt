@@ -73,7 +73,7 @@ pub fn cents(s: &[u8], tree: &[u16], found: Found) -> u64
     let Found::At(i) = found else {
         return 0;
     };
-    let reading = numbers::money_cents(leaves::text(s, tree, i));
+    let reading = money::money_cents(leaves::text(s, tree, i));
     match reading {
         Reading::Not => 0,
         Reading::Number(n) => n,

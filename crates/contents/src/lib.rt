@@ -14,28 +14,13 @@ ghost use Rattle.tree.specs.Laid.{between, Entry};
 ghost use Rattle.places.specs.Numbers.{of-entry, places-between};
 ghost use Rattle.contents.specs.Judged.{Judged};
 
-fn white(b: u8) -> bool
-    ensures { λ r. ⌜ r ≡ white b ⌝ }
-{
-    if b == b' ' {
-        return true;
-    }
-    if b == b'\t' {
-        return true;
-    }
-    if b == b'\n' {
-        return true;
-    }
-    b == b'\r'
-}
-
 // The place of the first byte that is not white space; the length where there is none.
 fn first_black(s: &[u8]) -> usize
     ensures { λ r. ⌜ r ≡ first-not white (now (s .entry)) ⌝ }
 {
     let mut i = 0;
     while i < s.len() {
-        if !white(s[i]) {
+        if !classes::is_white(s[i]) {
             return i;
         }
         i += 1;

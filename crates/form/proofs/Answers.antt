@@ -9,7 +9,7 @@ use Rattle.paper.specs.Reading.{Reading, root-is, stops-at, read}
 use Rattle.form.specs.Answers.{Says, answer}
 use Rattle.form.specs.declared.Form.{Form}
 use Rattle.form.specs.declared.Form.the-variants.{OfTheForm, RefusedAt}
-use Rattle.form.proofs.Decides.{root-is-form, stop-is-refusal, one-offset}
+use Rattle.grammar.proofs.Decides.{root-is-form, stop-is-refusal, one-offset}
 
 -- any two answers that meet the contract are equal
 pub agree : (s : List ℕ) (a b : Form) → Says s a → Says s b → a ≡ b

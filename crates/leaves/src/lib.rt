@@ -44,7 +44,7 @@ pub fn count_at(s: &[u8], tree: &[u16], i: usize) -> u64
 pub fn cents_at(s: &[u8], tree: &[u16], i: usize) -> u64
     ensures { λ r. ⌜ ((t : Element) (next : ℕ) → Laid (now (s .entry)) (now (tree .entry)) t i next → money (text-of t) ≡ true → r ≡ cents (text-of t)) ⌝ }
 {
-    match numbers::money_cents(text(s, tree, i)) {
+    match money::money_cents(text(s, tree, i)) {
         Reading::Not => 0,
         Reading::Number(n) => n,
     }

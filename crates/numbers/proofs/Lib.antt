@@ -1,5 +1,3 @@
 -- Laws that belong to no one function.
 pub mod Laws
-pub mod Days
-pub mod InCents
 pub mod Agreement

@@ -1,8 +1,7 @@
 -- Parts of a text that reach past its end, or end before they start.
 use Prim.Native.Nat.{ℕ, _-_, _<_}
 use mathlib.Core.List.{List, []}
-use mathlib.Core.Bool.{Bool, true, false, _||_}
-use mathlib.Core.Path.{_≡_, refl, sym, ap, _∙_}
+use mathlib.Core.Path.{_≡_, sym, ap, _∙_}
 use native.Mathlib.Omega.{arith}
 use lib.ListN.{length, take, drop, drop-of-length-le, length-drop}
 use lib.Seq.{take-all, take-nil}
@@ -25,7 +24,3 @@ module _ (t : List ℕ) (from to : ℕ) where
 
 pub between-is : (t : List ℕ) {from from′ to to′ : ℕ} → from ≡ from′ → to ≡ to′ → between from to t ≡ between from′ to′ t
 between-is t p q = rw (p, q)
-
-pub either-false : (t : Bool) → t ≡ (t || false)
-either-false true = refl
-either-false false = refl

@@ -17,7 +17,8 @@ use Rattle.paper.specs.declared.Verdict.{Verdict}
 use Rattle.paper.specs.declared.Verdict.the-variants as the
 use Rattle.acceptance.proofs.Accepts.{accepts-with-table}
 use Rattle.answers.proofs.Agreement.{one-verdict}
-use Rattle.reader.specs.Answers.{Answers, HandsBack}
+use Rattle.parts.specs.Parts.{HandsBack}
+use Rattle.reader.specs.Answers.{Answers}
 
 -- two answers that meet the contract of `verdict`, and what they leave in the table, are the same
 pub answers-agree : {message before after other : List ℕ} (v w : Verdict) → Answers message before v after → Answers message before w other → v ≡ w

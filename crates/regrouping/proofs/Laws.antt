@@ -15,7 +15,7 @@ use Rattle.paper.specs.Payments.{Payment, payments, in-payment}
 use Rattle.paper.specs.Refusals.{refused-as, accepted-with, outcome-alone}
 use Rattle.paper.specs.Fields.{Value, values-of, field-part}
 use Rattle.paper.specs.Table.{Part, part-of}
-use Rattle.reader.specs.Answers.{HandsBack}
+use Rattle.parts.specs.Parts.{HandsBack}
 use denote.Ref.{RefT}
 use Rattle.paper.specs.Accepted.{All}
 use Rattle.paper.specs.Regrouping.{Answer, answered, message-refused, ordinals-of, pairing, of-payments, all-values, of-outcomes, regrouping, differing-part}

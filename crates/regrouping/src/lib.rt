@@ -11,7 +11,7 @@ ghost use Rattle.paper.specs.Refusals.{accepted-with, outcome-alone};
 ghost use Rattle.paper.specs.Regrouping.{of-payments, all-values, of-outcomes, regrouping, differing-part};
 ghost use Rattle.paper.specs.Answers.{regrouping-of};
 ghost use Rattle.moves.specs.Pairs.{InOrder, answer-of};
-ghost use Rattle.reader.specs.Answers.{HandsBack};
+ghost use Rattle.parts.specs.Parts.{HandsBack};
 
 // 18, 19 and 20, as the walk over the pairs says them.
 fn paired_as(paired: Paired) -> Regrouping

@@ -1,74 +1,41 @@
 -- The stages of the verdict, one after the other.
-use Prim.Native.Nat.{ℕ, _≤_, _<_}
+use Prim.Native.Nat.{ℕ, _≤_}
 use native.Mathlib.Omega.{arith}
 use mathlib.Core.List.{List}
-use mathlib.Core.Bool.{Bool, true, false}
 use mathlib.Core.Option.{Option, none, some}
 use mathlib.Core.Path.{_≡_, refl, sym, _∙_, ap, subst}
-use borrow.Author.Tests.{lt-ltb, le-ltb}
+use borrow.Author.Tests.{le-ltb}
 use lib.ListN.{length}
-use Rattle.paper.specs.Form.{Element, IsMessage, FirstImpossible, OfTheForm as IsOfTheForm}
-use Rattle.paper.specs.Reading.{read, root-is, stops-at}
+use Rattle.paper.specs.Form.{Element}
+use Rattle.paper.specs.Reading.{read, root-is}
 use Rattle.paper.specs.Rows.{rows, row-of}
 use Rattle.paper.specs.Payments.{blocks, payments, total}
-use Rattle.paper.specs.Refusals.{Refusal, refuse, _or-else_, size-refusal, largest-message, Outcome, refused-as, accepted-with, unless-refused, of-reading, outcome-alone, tree-refusal, rows-refusal, limits-refusal, values-refusal, usage-refusal, ids-refusal, total-refusal, counts-refusal, no-judgement, leaf-refusal}
+use Rattle.paper.specs.Refusals.{Refusal, refuse, _or-else_, size-refusal, largest-message, refused-as, accepted-with, unless-refused, of-reading, outcome-alone, tree-refusal, rows-refusal, limits-refusal, values-refusal, usage-refusal, ids-refusal, total-refusal, counts-refusal, no-judgement, leaf-refusal}
 use Rattle.paper.specs.Accepted.{AnyText}
 use Rattle.paper.specs.Answers.{refusal-of, numbered, refusal-found}
 use Rattle.paper.specs.declared.Fault.{Fault}
-use Rattle.paper.specs.declared.Fault.the-variants.{MessageTooLong, NotOfTheForm, TooMany, TotalTooLarge}
+use Rattle.paper.specs.declared.Fault.the-variants.{TooMany, TotalTooLarge}
 use Rattle.paper.specs.declared.Finding.{Finding}
 use Rattle.paper.specs.declared.Finding.the-variants as finding
 use Rattle.paper.specs.declared.Verdict.{Verdict}
 use Rattle.paper.specs.declared.Verdict.the-variants.{Accepted, Refused}
 use Rattle.acceptance.proofs.Rows.{walk-conforms, conforms-walk}
 use Rattle.acceptance.proofs.Apart.{rows-apart}
-use Rattle.form.proofs.Sound.{sound}
-use Rattle.form.proofs.Decides.{refusal-is-stop, form-is-root}
-use Rattle.form.specs.Answers.{Says}
-use Rattle.form.specs.declared.Form.{Form}
-use Rattle.form.specs.declared.Form.the-variants.{OfTheForm, RefusedAt}
 use Rattle.tree.specs.Laid.{Laid}
 use Rattle.order.specs.Ordered.{Ordered, Few, Limited, is-within, is-excess}
 use Rattle.order.specs.declared.Limits.{Limits}
 use Rattle.order.specs.declared.Limits.the-variants.{Within, Excess}
-use Rattle.leaves.specs.Readable.{Readable}
 use Rattle.totals.specs.Totals.{Totals, total-is, total-above}
 use Rattle.totals.specs.declared.Total.{Total}
 use Rattle.totals.specs.declared.Total.the-variants as totalled
-use Rattle.stages.specs.Decided.{Shaped, not-shaped, is-shaped, Placed, Passes, refuses, accepts, Decided, decided-refused, decided-accepted}
+use Rattle.shape.specs.Shaped.{Shaped, not-shaped, is-shaped}
+use Rattle.stages.specs.Decided.{Passes, refuses, accepts, Decided, decided-refused, decided-accepted}
 use Rattle.stages.proofs.Readable.{readable}
 use Rattle.stages.proofs.Fits.{fits}
-
--- 1 and 2
-pub too-long : (s : List ℕ) → 32768 < length s → outcome-alone rows s ≡ refused-as (refusal-of MessageTooLong)
-unfolding outcome-alone size-refusal largest-message refuse unless-refused refusal-of numbered
-too-long s h = rw (lt-ltb 32768 (length s) h)
-
-pub not-of-the-form : (s : List ℕ) {n : ℕ} → length s ≤ 32768 → read s ≡ stops-at n → outcome-alone rows s ≡ refused-as (refusal-of (NotOfTheForm n))
-unfolding outcome-alone size-refusal largest-message refuse unless-refused of-reading refusal-of numbered
-not-of-the-form s h e = rw (le-ltb 32768 (length s) h, e)
 
 of-the-form : (s : List ℕ) {root : Element} → length s ≤ 32768 → read s ≡ root-is root → outcome-alone rows s ≡ unless-refused (tree-refusal rows root) (accepted-with root)
 unfolding outcome-alone size-refusal largest-message refuse unless-refused of-reading
 of-the-form s h e = rw (le-ltb 32768 (length s) h, e)
-
-module _ (s : List ℕ) {f : Form} (says : Says s f) where
-  pub says-refused : {n : ℕ} → f ≡ RefusedAt n → FirstImpossible s n
-  unfolding Says
-  says-refused e = rw e at says
-
-  pub says-form : f ≡ OfTheForm → IsOfTheForm s
-  unfolding Says
-  says-form e = rw e at says
-
-pub shaped-refused : (s tree : List ℕ) {f : Form} {n : ℕ} → Says s f → f ≡ RefusedAt n → length s ≤ 32768 → Shaped s tree (finding.Refused (NotOfTheForm n))
-shaped-refused s tree {n = n} says e h = not-shaped (not-of-the-form s h (refusal-is-stop s n (says-refused s says e)))
-
-pub shaped-form : (s tree : List ℕ) {f : Form} {next : ℕ} → Says s f → f ≡ OfTheForm → length s ≤ 32768
-    → ((root : Element) → IsMessage s root → Laid s tree root 0 next) → Shaped s tree finding.Nothing
-shaped-form s tree says e h lays =
-    let r = form-is-root s (says-form s says e) in
-    is-shaped h (r .1) (lays (r .0) (sound s (r .0) (r .1)))
 
 -- a finding that refuses, and one that does not
 found-refused : {f : Finding} {x : Fault} {a : Option Refusal} → refusal-found f ≡ a → f ≡ finding.Refused x → a ≡ some (refusal-of x)

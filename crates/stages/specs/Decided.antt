@@ -1,30 +1,22 @@
 -- What the reader has found of a message, with its tree and its order in the lent buffers.
 use Prim.Native.Nat.{ℕ, _≤_}
-use mathlib.Core.List.{List, []}
+use mathlib.Core.List.{List}
 use mathlib.Core.Option.{Option, none, some}
 use mathlib.Core.Path.{_≡_}
 use lib.ListN.{length}
 use Rattle.paper.specs.Form.{Element}
-use Rattle.paper.specs.Reading.{read, root-is}
 use Rattle.paper.specs.Rows.{rows}
 use Rattle.paper.specs.Payments.{blocks, payments, total}
-use Rattle.paper.specs.Refusals.{Refusal, refused-as, accepted-with, outcome-alone, tree-refusal, limits-refusal, values-refusal, usage-refusal, ids-refusal, total-refusal, counts-refusal, rows-refusal, _or-else_}
+use Rattle.paper.specs.Refusals.{Refusal, refused-as, accepted-with, outcome-alone}
 use Rattle.paper.specs.Accepted.{All}
 use Rattle.paper.specs.Answers.{refusal-of}
 use Rattle.paper.specs.declared.Fault.{Fault}
-use Rattle.paper.specs.declared.Finding.{Finding}
-use Rattle.paper.specs.declared.Finding.the-variants as finding
 use Rattle.paper.specs.declared.Verdict.{Verdict}
 use Rattle.paper.specs.declared.Verdict.the-variants.{Accepted, Refused}
 use Rattle.tree.specs.Laid.{Laid}
 use Rattle.order.specs.Ordered.{Ordered}
 use Rattle.leaves.specs.Readable.{Readable}
 use Rattle.table.specs.Rows.{Fitting}
-
--- 1 and 2: refused, or the tree is laid out.
-pub data Shaped (s tree : List ℕ) : Finding → Type 0 where
-  not-shaped : {f : Fault} → outcome-alone rows s ≡ refused-as (refusal-of f) → Shaped s tree (finding.Refused f)
-  is-shaped : {root : Element} {next : ℕ} → length s ≤ 32768 → read s ≡ root-is root → Laid s tree root 0 next → Shaped s tree finding.Nothing
 
 -- what stands where, of a message that is accepted
 pub record Placed (s tree order : List ℕ) (root : Element) (b p c : ℕ) : Type 0 where

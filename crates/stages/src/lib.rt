@@ -1,5 +1,4 @@
 // The stages of the verdict, one after the other: what comes of a message where no table is lent.
-use form::Form;
 use order::Limits;
 use paper::Fault;
 use paper::Finding;
@@ -7,7 +6,7 @@ use paper::Verdict;
 use totals::Total;
 ghost use mathlib.Core.Path.{_≡_};
 ghost use mathlib.Core.Option.{none};
-ghost use Prim.Native.Nat.{ℕ, _≤_, _<_};
+ghost use Prim.Native.Nat.{ℕ, _≤_};
 ghost use lib.ListN.{length};
 ghost use Rattle.paper.specs.Form.{Element};
 ghost use Rattle.paper.specs.Rows.{rows};
@@ -16,23 +15,7 @@ ghost use Rattle.paper.specs.Refusals.{tree-refusal, rows-refusal, values-refus
 ghost use Rattle.paper.specs.Answers.{refusal-found};
 ghost use Rattle.tree.specs.Laid.{Laid};
 ghost use Rattle.order.specs.Ordered.{Ordered};
-ghost use Rattle.stages.specs.Decided.{Shaped, Passes, Decided};
-
-// 1 and 2; where neither refuses, the tree is laid out.
-fn shape(s: &[u8], tree: &mut [u16]) -> Finding
-    ensures shaped { λ r. ⌜ (54615 ≤ length (now (tree .entry)) → Shaped (now (s .entry)) (now (tree .exit)) r) ⌝ }
-    ensures as_long { λ _. ⌜ length (now (tree .exit)) ≡ length (now (tree .entry)) ⌝ }
-{
-    if 32768 < s.len() {
-        return Finding::Refused(Fault::MessageTooLong);
-    }
-    let form = form::form_of(s);
-    if let Form::RefusedAt(offset) = form {
-        return Finding::Refused(Fault::NotOfTheForm { offset });
-    }
-    tree::lay(s, tree);
-    Finding::Nothing
-}
+ghost use Rattle.stages.specs.Decided.{Passes, Decided};
 
 // 21, then 12 and 13.
 fn sums(s: &[u8], tree: &[u16], order: &[u16], blocks: usize, payments: usize) -> Verdict
@@ -112,7 +95,7 @@ fn stages(s: &[u8], tree: &[u16], order: &mut [u16]) -> Verdict
 pub fn outcome(s: &[u8], tree: &mut [u16], order: &mut [u16]) -> Verdict
     ensures { λ r. ⌜ (54615 ≤ length (now (tree .entry)) → 208 ≤ length (now (order .entry)) → Decided (now (s .entry)) (now (tree .exit)) (now (order .exit)) r) ⌝ }
 {
-    let shaped = shape(s, tree);
+    let shaped = shape::shape(s, tree);
     if let Finding::Refused(fault) = shaped {
         return Verdict::Refused(fault);
     }

@@ -28,7 +28,7 @@ fn service(parent: usize, s: &[u8]) -> bool
 fn amount_in(currency: &[u8], s: &[u8]) -> bool
     ensures { λ r. ⌜ r ≡ (amount (now (s .entry)) && same (now (currency .entry)) (bytes "EUR")) ⌝ }
 {
-    if !numbers::amount(s) {
+    if !money::amount(s) {
         return false;
     }
     texts::same(currency, b"EUR")
@@ -39,22 +39,22 @@ pub fn allowed(parent: usize, row: usize, currency: &[u8], s: &[u8]) -> bool
     ensures { λ r. ⌜ r ≡ allowed parent row (now (currency .entry)) (now (s .entry)) ⌝ }
 {
     match row {
-        4 | 11 => texts::id(s),
-        39 => texts::id(s),
-        40 => texts::id(s),
+        4 | 11 => identifiers::id(s),
+        39 => identifiers::id(s),
+        40 => identifiers::id(s),
         12 => texts::same(s, b"TRF"),
         13 => texts::either(s, b"true", b"false"),
         17 => texts::either(s, b"NORM", b"HIGH"),
         19 => service(parent, s),
         33 => texts::same(s, b"NOTPROVIDED"),
         36 => texts::same(s, b"SLEV"),
-        21 => texts::purpose(s),
-        23 => numbers::date(s),
-        5 => numbers::date_and_time(s),
+        21 => identifiers::purpose(s),
+        23 => days::date(s),
+        5 => days::date_and_time(s),
         6 | 14 => numbers::count(s),
-        7 | 15 => numbers::money(s),
+        7 | 15 => money::money(s),
         42 => amount_in(currency, s),
-        31 => accounts::bic(s),
+        31 => bics::bic(s),
         28 => accounts::iban(s),
         _ => true,
     }
@@ -70,11 +70,11 @@ pub fn leaf(parent: usize, row: usize, longest: usize, currency: &[u8], s: &[u8]
     if longest < s.len() {
         return Judgement::EmptyOrTooLong;
     }
-    let at = texts::first_outside(s);
+    let at = characters::first_outside(s);
     if at < s.len() {
         return Judgement::NotInTheSet { at };
     }
-    if texts::spaces_alone(s) {
+    if characters::spaces_alone(s) {
         return Judgement::NotAllowed;
     }
     if !allowed(parent, row, currency, s) {

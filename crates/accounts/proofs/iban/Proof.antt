@@ -8,7 +8,8 @@ use Rattle.paper.specs.Values.{lies-from, number, part, shaped, of-a-country, i
 use Rattle.texts.specs.Shapes.{fits-byte}
 use Rattle.texts.proofs.Laws.{shaped-is, pairwise-length, rest-is, every-capital-or-digit}
 use Rattle.numbers.proofs.Laws.{spelled-part}
-use Rattle.accounts.proofs.Account.{of-a-country-is, moved-told}
+use Rattle.countries.proofs.Letters.{of-a-country-is}
+use Rattle.accounts.proofs.Account.{moved-told}
 use Rattle.accounts.proofs.iban.Statement.{statement}
 use Rattle.accounts.proofs.iban.Tie as tie
 

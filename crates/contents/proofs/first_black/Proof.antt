@@ -19,14 +19,14 @@ abbrev μ-loop : tie.MeasureT-loop
 loop-holds : tie.Need-loop-holds Inv-loop μ-loop
 loop-holds c = search needs
 
-shared-slice-read-white : tie.Need-shared-slice-read-white Inv-loop μ-loop
-shared-slice-read-white c = search needs
+shared-slice-read-is-white : tie.Need-shared-slice-read-is-white Inv-loop μ-loop
+shared-slice-read-is-white c = search needs
 
-white-requires : tie.Need-white-requires Inv-loop μ-loop
-white-requires c κs = search needs
+is-white-requires : tie.Need-is-white-requires Inv-loop μ-loop
+is-white-requires c κs = search needs
 
 returns : tie.Need-returns Inv-loop μ-loop
-returns c = omega (arith, c .before .before .before .before .loop .inv .1, first-stops white (c .before .before .before .before .before .before .args .s .now) (c .before .before .before .before .loop .i) (c .before .before .before .loop-test .taken) (sym (c .before .white .ensures) ∙ not-true _ (c .if1 .taken)))
+returns c = omega (arith, c .before .before .before .before .loop .inv .1, first-stops white (c .before .before .before .before .before .before .args .s .now) (c .before .before .before .before .loop .i) (c .before .before .before .loop-test .taken) (sym (c .before .is-white .ensures) ∙ not-true _ (c .if1 .taken)))
 
 add-i : tie.Need-add-i Inv-loop μ-loop
 add-i c = search needs
@@ -35,7 +35,7 @@ loop-less : tie.Need-loop-less Inv-loop μ-loop
 loop-less c = search needs
 
 loop-again : tie.Need-loop-again Inv-loop μ-loop
-loop-again c = omega (arith, c .before .before .before .before .loop .inv .1, first-goes white (c .before .before .before .before .before .before .args .s .now) (c .before .before .before .before .loop .i) (c .before .before .before .loop-test .taken) (sym (c .before .white .ensures) ∙ not-false _ (c .if1 .left)))
+loop-again c = omega (arith, c .before .before .before .before .loop .inv .1, first-goes white (c .before .before .before .before .before .before .args .s .now) (c .before .before .before .before .loop .i) (c .before .before .before .loop-test .taken) (sym (c .before .is-white .ensures) ∙ not-false _ (c .if1 .left)))
 
 returns-2 : tie.Need-returns-2 Inv-loop μ-loop
 returns-2 c = omega (arith, c .before .loop .inv .1, first-ends white (c .before .before .before .args .s .now) (c .before .loop .i) (c .loop-test .left))
@@ -47,8 +47,8 @@ first-black-spec =
     Inv-loop
     μ-loop
     loop-holds
-    shared-slice-read-white
-    white-requires
+    shared-slice-read-is-white
+    is-white-requires
     returns
     add-i
     loop-less

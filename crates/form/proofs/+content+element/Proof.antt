@@ -5,7 +5,7 @@ use mathlib.Core.Path.{sym, _∙_}
 use native.Mathlib.Omega.{arith}
 use lib.ListN.{length}
 use borrow.Author.Tests.{not-true, not-false}
-use Rattle.form.proofs.Laws.{reached}
+use Rattle.scans.proofs.Laws.{reached}
 use Rattle.form.proofs.ContentLaws.{Passed, none-passed, one-passed, content-text, content-end, content-stops, element-bounds, no-letter, too-deep, name-short, name-long, tag-stops, element-read}
 use Prim.Native.Nat.{ℕ, _<_}
 use borrow.Fn.Kinds.{In}
@@ -17,13 +17,13 @@ use Rattle.form.proofs.element.Reads as element
 use Rattle.form.proofs.element.Kinds as element-kinds
 use Rattle.form.proofs.+content+element.Lts-element as element-lts
 use Rattle.form.proofs.child_at.Reads as child-at-reads
-use Rattle.form.proofs.end_tag.Reads as end-tag-reads
-use Rattle.form.proofs.is_letter.Reads as is-letter-reads
-use Rattle.form.proofs.is_letter_or_digit.Reads as is-letter-or-digit-reads
-use Rattle.form.proofs.name_end.Reads as name-end-reads
-use Rattle.form.proofs.tag_end.Reads as tag-end-reads
+use Rattle.scans.proofs.end_tag.Reads as end-tag-reads
+use Rattle.classes.proofs.is_letter.Reads as is-letter-reads
+use Rattle.classes.proofs.is_letter_or_digit.Reads as is-letter-or-digit-reads
+use Rattle.scans.proofs.name_end.Reads as name-end-reads
+use Rattle.scans.proofs.tag_end.Reads as tag-end-reads
 use Rattle.form.proofs.text.Reads as text-reads
-use Rattle.form.proofs.white_end.Reads as white-end-reads
+use Rattle.scans.proofs.white_end.Reads as white-end-reads
 use Rattle.form.proofs.+content+element.{statement}
 use Rattle.form.proofs.+content+element.Tie.{close}
 
@@ -64,19 +64,19 @@ content-white-end-requires : (t : ℕ) → content-lts.Need-white-end-requires (
 content-white-end-requires t c κs = search needs
 
 content-child-at-requires : (t : ℕ) → content-lts.Need-child-at-requires (content-claims t) (content-at t) content.Post content-Inv-loop content-μ-loop
-content-child-at-requires t c κs = search needs
+content-child-at-requires t c κs = c .white-end .ensures (c .before .loop .inv .within) .through .within
 
 content-text-requires : (t : ℕ) → content-lts.Need-text-requires (content-claims t) (content-at t) content.Post content-Inv-loop content-μ-loop
 content-text-requires t c κs = search needs
 
 content-returns : (t : ℕ) → content-lts.Need-returns (content-claims t) (content-at t) content.Post content-Inv-loop content-μ-loop
-content-returns t c = content-text (rw (c .before .if2 .taken) at (c .before .before .before .before .white-end .ensures)) (c .before .before .before .child-at .ensures) (not-true _ (c .before .before .if1 .taken)) (c .text .ensures)
+content-returns t c = content-text (rw (c .before .if2 .taken) at (c .before .before .before .before .white-end .ensures (c .before .before .before .before .before .loop .inv .within))) (c .before .before .before .child-at .ensures) (not-true _ (c .before .before .if1 .taken)) (c .text .ensures (c .before .before .before .before .white-end .ensures (c .before .before .before .before .before .loop .inv .within) .through .within))
 
 content-end-tag-requires : (t : ℕ) → content-lts.Need-end-tag-requires (content-claims t) (content-at t) content.Post content-Inv-loop content-μ-loop
 content-end-tag-requires t c κs = search needs
 
 content-returns-2 : (t : ℕ) → content-lts.Need-returns-2 (content-claims t) (content-at t) content.Post content-Inv-loop content-μ-loop
-content-returns-2 t c = content-end (c .before .before .before .before .before .loop .inv) (c .before .before .before .before .white-end .ensures) (c .before .before .before .child-at .ensures) (not-true _ (c .before .before .if1 .taken)) (c .before .if2 .left) (c .end-tag .ensures)
+content-returns-2 t c = content-end (c .before .before .before .before .before .loop .inv) (c .before .before .before .before .white-end .ensures (c .before .before .before .before .before .loop .inv .within)) (c .before .before .before .child-at .ensures) (not-true _ (c .before .before .if1 .taken)) (c .before .if2 .left) (c .end-tag .ensures (c .before .before .before .before .white-end .ensures (c .before .before .before .before .before .loop .inv .within) .through .within))
 
 content-add-element : (t : ℕ) → content-lts.Need-add-element (content-claims t) (content-at t) content.Post content-Inv-loop content-μ-loop
 content-add-element t c = omega (arith, c .before .child-at .ensures .there (not-false _ (c .if1 .left)))
@@ -88,16 +88,16 @@ content-enum-known-n : (t : ℕ) → content-lts.Need-enum-known-n (content-clai
 content-enum-known-n t c = search needs
 
 content-returns-3 : (t : ℕ) → content-lts.Need-returns-3 (content-claims t) (content-at t) content.Post content-Inv-loop content-μ-loop
-content-returns-3 t c = content-stops (c .before .before .before .before .before .before .before .loop .inv) (c .before .before .before .before .before .before .white-end .ensures) (c .before .before .before .before .before .child-at .ensures) (not-false _ (c .before .before .before .before .if1 .left)) (c .before .before .before .element .ensures) (c .before .n .given .1)
+content-returns-3 t c = content-stops (c .before .before .before .before .before .before .before .loop .inv) (c .before .before .before .before .before .before .white-end .ensures (c .before .before .before .before .before .before .before .loop .inv .within)) (c .before .before .before .before .before .child-at .ensures) (not-false _ (c .before .before .before .before .if1 .left)) (c .before .before .before .element .ensures) (c .before .n .given .1)
 
 content-enum-known-q : (t : ℕ) → content-lts.Need-enum-known-q (content-claims t) (content-at t) content.Post content-Inv-loop content-μ-loop
 content-enum-known-q t c = search needs
 
 content-loop-less : (t : ℕ) → content-lts.Need-loop-less (content-claims t) (content-at t) content.Post content-Inv-loop content-μ-loop
-content-loop-less t c = omega (arith, element-bounds (c .before .before .before .before .before .before .before .before .before .before .pre .1 .1) (c .before .before .before .element .ensures) (c .before .q .given .1), c .before .before .before .before .before .before .white-end .ensures .through)
+content-loop-less t c = omega (arith, element-bounds (c .before .before .before .before .before .before .before .before .before .before .pre .1 .1) (c .before .before .before .element .ensures) (c .before .q .given .1), c .before .before .before .before .before .before .white-end .ensures (c .before .before .before .before .before .before .before .loop .inv .within) .through)
 
 content-loop-again : (t : ℕ) → content-lts.Need-loop-again (content-claims t) (content-at t) content.Post content-Inv-loop content-μ-loop
-content-loop-again t c = one-passed (c .before .before .before .before .before .before .before .loop .inv) (c .before .before .before .before .before .before .white-end .ensures) (c .before .before .before .before .before .child-at .ensures) (not-false _ (c .before .before .before .before .if1 .left)) (c .before .before .before .element .ensures) (c .before .before .before .before .before .before .before .before .before .before .pre .1 .1) (c .before .q .given .1)
+content-loop-again t c = one-passed (c .before .before .before .before .before .before .before .loop .inv) (c .before .before .before .before .before .before .white-end .ensures (c .before .before .before .before .before .before .before .loop .inv .within)) (c .before .before .before .before .before .child-at .ensures) (not-false _ (c .before .before .before .before .if1 .left)) (c .before .before .before .element .ensures) (c .before .before .before .before .before .before .before .before .before .before .pre .1 .1) (c .before .q .given .1)
 
 element-shared-slice-read-is-letter : (t : ℕ) → element-lts.Need-shared-slice-read-is-letter (element-claims t) (element-at t) element.Post
 element-shared-slice-read-is-letter t c = search needs
@@ -115,29 +115,29 @@ element-name-end-requires : (t : ℕ) → element-lts.Need-name-end-requires (el
 element-name-end-requires t c κs = search needs
 
 element-returns-3 : (t : ℕ) → element-lts.Need-returns-3 (element-claims t) (element-at t) element.Post
-element-returns-3 t c = name-short (c .before .before .before .before .before .before .before .pre .1 .0) (sym (c .before .before .before .before .is-letter .ensures) ∙ not-false _ (c .before .before .before .if1 .left)) (c .before .name-end .ensures) (c .before .before .if2 .left) (c .if3 .taken)
+element-returns-3 t c = name-short (c .before .before .before .before .before .before .before .pre .1 .0) (sym (c .before .before .before .before .is-letter .ensures) ∙ not-false _ (c .before .before .before .if1 .left)) (c .before .name-end .ensures (c .before .before .before .before .before .before .before .pre .1 .0)) (c .before .before .if2 .left) (c .if3 .taken)
 
 element-shared-slice-read-is-letter-or-digit :
     (t : ℕ) → element-lts.Need-shared-slice-read-is-letter-or-digit (element-claims t) (element-at t) element.Post
-element-shared-slice-read-is-letter-or-digit t c = search needs
+element-shared-slice-read-is-letter-or-digit t c = let n = c .before .before .name-end .ensures (c .before .before .before .before .before .before .before .before .pre .1 .0) .spelt in let a = n .rises in let b = n .within in search needs
 
 element-is-letter-or-digit-requires : (t : ℕ) → element-lts.Need-is-letter-or-digit-requires (element-claims t) (element-at t) element.Post
 element-is-letter-or-digit-requires t c κs = search needs
 
 element-returns-4 : (t : ℕ) → element-lts.Need-returns-4 (element-claims t) (element-at t) element.Post
-element-returns-4 t c = name-long (c .before .before .before .before .before .before .before .before .before .before .pre .1 .0) (sym (c .before .before .before .before .before .before .before .is-letter .ensures) ∙ not-false _ (c .before .before .before .before .before .before .if1 .left)) (c .before .before .before .before .name-end .ensures) (c .before .before .before .before .before .if2 .left) (search needs) (sym (c .before .is-letter-or-digit .ensures) ∙ c .if4 .taken)
+element-returns-4 t c = name-long (c .before .before .before .before .before .before .before .before .before .before .pre .1 .0) (sym (c .before .before .before .before .before .before .before .is-letter .ensures) ∙ not-false _ (c .before .before .before .before .before .before .if1 .left)) (c .before .before .before .before .name-end .ensures (c .before .before .before .before .before .before .before .before .before .before .pre .1 .0)) (c .before .before .before .before .before .if2 .left) (let n = c .before .before .before .before .name-end .ensures (c .before .before .before .before .before .before .before .before .before .before .pre .1 .0) .spelt .within in search needs) (sym (c .before .is-letter-or-digit .ensures) ∙ c .if4 .taken)
 
 element-sub-tag-end : (t : ℕ) → element-lts.Need-sub-tag-end (element-claims t) (element-at t) element.Post
-element-sub-tag-end t c = search needs
+element-sub-tag-end t c = let n = c .before .before .before .before .name-end .ensures (c .before .before .before .before .before .before .before .before .before .before .pre .1 .0) .spelt in let a = n .rises in let b = n .within in search needs
 
 element-part-tag-end-start : (t : ℕ) → element-lts.Need-part-tag-end-start (element-claims t) (element-at t) element.Post
-element-part-tag-end-start t c = search needs
+element-part-tag-end-start t c = let n = c .before .before .before .before .name-end .ensures (c .before .before .before .before .before .before .before .before .before .before .pre .1 .0) .spelt in let a = n .rises in let b = n .within in search needs
 
 element-part-tag-end-end : (t : ℕ) → element-lts.Need-part-tag-end-end (element-claims t) (element-at t) element.Post
-element-part-tag-end-end t c = search needs
+element-part-tag-end-end t c = let n = c .before .before .before .before .name-end .ensures (c .before .before .before .before .before .before .before .before .before .before .pre .1 .0) .spelt in let a = n .rises in let b = n .within in search needs
 
 element-tag-end-requires : (t : ℕ) → element-lts.Need-tag-end-requires (element-claims t) (element-at t) element.Post
-element-tag-end-requires t c κs = (search needs, sym (c .before .before .is-letter-or-digit .ensures) ∙ c .before .if4 .left)
+element-tag-end-requires t c κs = search needs
 
 element-enum-known-n : (t : ℕ) → element-lts.Need-enum-known-n (element-claims t) (element-at t) element.Post
 element-enum-known-n t c = search needs
@@ -146,25 +146,25 @@ element-enum-known-p : (t : ℕ) → element-lts.Need-enum-known-p (element-clai
 element-enum-known-p t c = search needs
 
 element-sub-content : (t : ℕ) → element-lts.Need-sub-content (element-claims t) (element-at t) element.Post
-element-sub-content t c = search needs
+element-sub-content t c = let n = c .before .before .before .before .before .before .before .before .before .name-end .ensures (c .before .before .before .before .before .before .before .before .before .before .before .before .before .before .before .pre .1 .0) .spelt in let a = n .rises in let b = n .within in search needs
 
 element-part-content-start : (t : ℕ) → element-lts.Need-part-content-start (element-claims t) (element-at t) element.Post
-element-part-content-start t c = search needs
+element-part-content-start t c = let n = c .before .before .before .before .before .before .before .before .before .name-end .ensures (c .before .before .before .before .before .before .before .before .before .before .before .before .before .before .before .pre .1 .0) .spelt in let a = n .rises in let b = n .within in search needs
 
 element-part-content-end : (t : ℕ) → element-lts.Need-part-content-end (element-claims t) (element-at t) element.Post
-element-part-content-end t c = search needs
+element-part-content-end t c = let n = c .before .before .before .before .before .before .before .before .before .name-end .ensures (c .before .before .before .before .before .before .before .before .before .before .before .before .before .before .before .pre .1 .0) .spelt in let a = n .rises in let b = n .within in search needs
 
 element-sub-content-2 : (t : ℕ) → element-lts.Need-sub-content-2 (element-claims t) (element-at t) element.Post
 element-sub-content-2 t c = search needs
 
 element-content-requires : (t : ℕ) → element-lts.Need-content-requires (element-claims t) (element-at t) element.Post
-element-content-requires t c κs = (search needs, (reached (c .before .before .before .before .tag-end .ensures 0 0 0) (c .before .before .p .given .1) .within, search needs))
+element-content-requires t c κs = (search needs, (reached (c .before .before .before .before .tag-end .ensures (let n = c .before .before .before .before .before .before .before .before .before .before .name-end .ensures (c .before .before .before .before .before .before .before .before .before .before .before .before .before .before .before .before .pre .1 .0) .spelt .within in omega (arith, n)) (sym (c .before .before .before .before .before .before .before .is-letter-or-digit .ensures) ∙ c .before .before .before .before .before .before .if4 .left) 0 0 0) (c .before .before .p .given .1) .within, search needs))
 
 element-returns-5 : (t : ℕ) → element-lts.Need-returns-5 (element-claims t) (element-at t) element.Post
-element-returns-5 t c = tag-stops (c .before .before .before .before .before .before .before .before .before .before .before .before .before .before .before .pre .1 .0) (sym (c .before .before .before .before .before .before .before .before .before .before .before .before .is-letter .ensures) ∙ not-false _ (c .before .before .before .before .before .before .before .before .before .before .before .if1 .left)) (c .before .before .before .before .before .before .before .before .before .name-end .ensures) (c .before .before .before .before .before .before .before .before .before .before .if2 .left) (c .before .before .before .tag-end .ensures) (c .before .n .given .1)
+element-returns-5 t c = tag-stops (c .before .before .before .before .before .before .before .before .before .before .before .before .before .before .before .pre .1 .0) (sym (c .before .before .before .before .before .before .before .before .before .before .before .before .is-letter .ensures) ∙ not-false _ (c .before .before .before .before .before .before .before .before .before .before .before .if1 .left)) (c .before .before .before .before .before .before .before .before .before .name-end .ensures (c .before .before .before .before .before .before .before .before .before .before .before .before .before .before .before .pre .1 .0)) (c .before .before .before .before .before .before .before .before .before .before .if2 .left) (c .before .before .before .tag-end .ensures (let n = c .before .before .before .before .before .before .before .before .before .name-end .ensures (c .before .before .before .before .before .before .before .before .before .before .before .before .before .before .before .pre .1 .0) .spelt .within in omega (arith, n)) (sym (c .before .before .before .before .before .before .is-letter-or-digit .ensures) ∙ c .before .before .before .before .before .if4 .left)) (c .before .n .given .1)
 
 element-returns-6 : (t : ℕ) → element-lts.Need-returns-6 (element-claims t) (element-at t) element.Post
-element-returns-6 t c = element-read (c .before .before .before .before .before .before .before .before .before .before .before .before .before .before .before .before .before .pre .1 .0) (sym (c .before .before .before .before .before .before .before .before .before .before .before .before .before .before .is-letter .ensures) ∙ not-false _ (c .before .before .before .before .before .before .before .before .before .before .before .before .before .if1 .left)) (c .before .before .before .before .before .before .before .before .before .before .before .name-end .ensures) (c .before .before .before .before .before .before .before .before .before .before .before .before .if2 .left) (c .before .before .before .before .before .tag-end .ensures) (c .before .before .before .p .given .1) (omega arith) (c .content .ensures)
+element-returns-6 t c = element-read (c .before .before .before .before .before .before .before .before .before .before .before .before .before .before .before .before .before .pre .1 .0) (sym (c .before .before .before .before .before .before .before .before .before .before .before .before .before .before .is-letter .ensures) ∙ not-false _ (c .before .before .before .before .before .before .before .before .before .before .before .before .before .if1 .left)) (c .before .before .before .before .before .before .before .before .before .before .before .name-end .ensures (c .before .before .before .before .before .before .before .before .before .before .before .before .before .before .before .before .before .pre .1 .0)) (c .before .before .before .before .before .before .before .before .before .before .before .before .if2 .left) (c .before .before .before .before .before .tag-end .ensures (let n = c .before .before .before .before .before .before .before .before .before .before .before .name-end .ensures (c .before .before .before .before .before .before .before .before .before .before .before .before .before .before .before .before .before .pre .1 .0) .spelt .within in omega (arith, n)) (sym (c .before .before .before .before .before .before .before .before .is-letter-or-digit .ensures) ∙ c .before .before .before .before .before .before .before .if4 .left)) (c .before .before .before .p .given .1) (omega arith) (c .content .ensures)
 
 pub +content+element-spec : {M : Type 1} → statement M
 +content+element-spec = close μ-content μ-element (λ t. content-lts.spec (content-claims t)

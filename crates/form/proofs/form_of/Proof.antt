@@ -1,6 +1,6 @@
 -- `form::form_of` meets its contract: the root, and then white space up to the end of the message.
 use Rattle.form.proofs.RootLaws.{refused, accepted, trailing}
-use Rattle.form.proofs.Laws.{reached}
+use Rattle.scans.proofs.Laws.{reached}
 use borrow.Author.Needs.{needs}
 use Rattle.form.proofs.form_of.Statement.{statement}
 use Rattle.form.proofs.form_of.Tie as tie
@@ -15,16 +15,16 @@ enum-known-p : tie.Need-enum-known-p
 enum-known-p c = search needs
 
 white-end-requires : tie.Need-white-end-requires
-white-end-requires c κs = reached (c .before .before .before .root .ensures) (c .before .p .given .1) .within
+white-end-requires c κs = search needs
 
 returns : tie.Need-returns
 returns c = refused (c .before .before .before .root .ensures) (c .before .n .given .1)
 
 returns-2 : tie.Need-returns-2
-returns-2 c = accepted (c .before .before .before .before .before .root .ensures) (c .before .before .before .p .given .1) (c .before .white-end .ensures) (c .if1 .taken)
+returns-2 c = accepted (c .before .before .before .before .before .root .ensures) (c .before .before .before .p .given .1) (c .before .white-end .ensures (reached (c .before .before .before .before .before .root .ensures) (c .before .before .before .p .given .1) .within)) (c .if1 .taken)
 
 returns-3 : tie.Need-returns-3
-returns-3 c = trailing (c .before .before .before .before .before .root .ensures) (c .before .before .before .p .given .1) (c .before .white-end .ensures) (c .if1 .left)
+returns-3 c = trailing (c .before .before .before .before .before .root .ensures) (c .before .before .before .p .given .1) (c .before .white-end .ensures (reached (c .before .before .before .before .before .root .ensures) (c .before .before .before .p .given .1) .within)) (c .if1 .left)
 
 pub form-of-spec : {M : Type 1} → statement M
 form-of-spec =

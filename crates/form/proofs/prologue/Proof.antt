@@ -4,7 +4,7 @@ use Rattle.paper.specs.Reading.{before}
 use Rattle.paper.specs.Form.{declaration}
 use Rattle.paper.specs.Bytes.{bytes}
 use Rattle.form.proofs.RootLaws.{declared, undeclared}
-use Rattle.form.proofs.Laws.{went, first, via}
+use Rattle.scans.proofs.Laws.{went, first, via}
 use borrow.Author.Needs.{needs}
 use Rattle.form.proofs.prologue.Statement.{statement}
 use Rattle.form.proofs.prologue.Tie as tie
@@ -32,7 +32,7 @@ word-requires c κs = search needs
 
 returns-4 : tie.Need-returns-4
 unfolding declaration bytes
-returns-4 c = first (omega arith) (λ _. declared (c .before .before .before .before .before .before .before .before .args .s .now) (search needs) (c .before .before .before .before .if2 .left) (c .before .before .if3 .left)) (via (λ _. before) (c .word .ensures))
+returns-4 c = first (omega arith) (λ _. declared (c .before .before .before .before .before .before .before .before .args .s .now) (search needs) (c .before .before .before .before .if2 .left) (c .before .before .if3 .left)) (via (λ _. before) (c .word .ensures (omega arith)))
 
 pub prologue-spec : {M : Type 1} → statement M
 prologue-spec =

@@ -1,6 +1,6 @@
 -- `form::root` meets its contract: perhaps the declaration, white space, and the root.
 use Rattle.form.proofs.RootLaws.{prologue-stops, whole-root}
-use Rattle.form.proofs.Laws.{reached}
+use Rattle.scans.proofs.Laws.{reached}
 use borrow.Author.Needs.{needs}
 use Rattle.form.proofs.root.Statement.{statement}
 use Rattle.form.proofs.root.Tie as tie
@@ -15,16 +15,16 @@ enum-known-p : tie.Need-enum-known-p
 enum-known-p c = search needs
 
 white-end-requires : tie.Need-white-end-requires
-white-end-requires c κs = reached (c .before .before .before .prologue .ensures) (c .before .p .given .1) .within
+white-end-requires c κs = search needs
 
 root-at-requires : tie.Need-root-at-requires
-root-at-requires c κs = (c .white-end .ensures .through .within, c .white-end .ensures .other)
+root-at-requires c κs = (c .white-end .ensures (reached (c .before .before .before .before .prologue .ensures) (c .before .before .p .given .1) .within) .through .within, c .white-end .ensures (reached (c .before .before .before .before .prologue .ensures) (c .before .before .p .given .1) .within) .other)
 
 returns : tie.Need-returns
 returns c = prologue-stops (c .before .before .before .prologue .ensures) (c .before .n .given .1)
 
 returns-2 : tie.Need-returns-2
-returns-2 c = whole-root (c .before .before .before .before .before .prologue .ensures) (c .before .before .before .p .given .1) (c .before .white-end .ensures) (c .root-at .ensures)
+returns-2 c = whole-root (c .before .before .before .before .before .prologue .ensures) (c .before .before .before .p .given .1) (c .before .white-end .ensures (reached (c .before .before .before .before .before .prologue .ensures) (c .before .before .before .p .given .1) .within)) (c .root-at .ensures)
 
 pub root-spec : {M : Type 1} → statement M
 root-spec =

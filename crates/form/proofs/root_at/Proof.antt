@@ -3,7 +3,7 @@ use native.Mathlib.Omega.{arith}
 use Rattle.paper.specs.Form.{root-tag}
 use Rattle.paper.specs.Bytes.{bytes}
 use Rattle.form.proofs.RootLaws.{root-stops, root-read}
-use Rattle.form.proofs.Laws.{reached}
+use Rattle.scans.proofs.Laws.{reached}
 use borrow.Author.Needs.{needs}
 use Rattle.form.proofs.root_at.Statement.{statement}
 use Rattle.form.proofs.root_at.Tie as tie
@@ -24,15 +24,15 @@ slice-aggregate-content : tie.Need-slice-aggregate-content
 slice-aggregate-content c = search needs
 
 content-requires : tie.Need-content-requires
-content-requires c κs = (reached (c .before .before .before .before .word .ensures) (c .before .before .p .given .1) .within, omega arith)
+content-requires c κs = (reached (c .before .before .before .before .word .ensures (search needs)) (c .before .before .p .given .1) .within, omega arith)
 
 returns : tie.Need-returns
 unfolding root-tag bytes
-returns c = root-stops (c .before .before .before .before .before .before .pre .1) (c .before .before .before .word .ensures) (c .before .n .given .1)
+returns c = root-stops (c .before .before .before .before .before .before .pre .1) (c .before .before .before .word .ensures (search needs)) (c .before .n .given .1)
 
 returns-2 : tie.Need-returns-2
 unfolding root-tag bytes
-returns-2 c = root-read (c .before .before .before .before .before .before .before .before .pre .1) (c .before .before .before .before .before .word .ensures) (c .before .before .before .p .given .1) (c .content .ensures)
+returns-2 c = root-read (c .before .before .before .before .before .before .before .before .pre .1) (c .before .before .before .before .before .word .ensures (search needs)) (c .before .before .before .p .given .1) (c .content .ensures)
 
 pub root-at-spec : {M : Type 1} → statement M
 root-at-spec =

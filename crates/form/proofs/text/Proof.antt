@@ -11,7 +11,7 @@ end-tag-requires : tie.Need-end-tag-requires
 end-tag-requires c κs = search needs
 
 returns : tie.Need-returns
-returns c = text-read (c .before .text-end .ensures) (c .end-tag .ensures)
+returns c = λ h. let t = c .before .text-end .ensures h in text-read t (c .end-tag .ensures (t .along .within))
 
 pub text-spec : {M : Type 1} → statement M
 text-spec = tie.close (tie.spec text-end-requires end-tag-requires returns)

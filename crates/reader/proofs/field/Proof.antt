@@ -8,7 +8,7 @@ use Rattle.reader.proofs.field.Statement.{statement}
 use Rattle.reader.proofs.field.Tie as tie
 use Rattle.reader.proofs.field.Reads as reads
 use Rattle.reader.proofs.field.Lts as lts
-use Rattle.reader.proofs.field_in.Reads as field-in-reads
+use Rattle.parts.proofs.field_in.Reads as field-in-reads
 use Rattle.stages.proofs.outcome.Reads as outcome-reads
 
 -- src/lib.rt:164:34

@@ -4,7 +4,7 @@ use Rattle.stages.proofs.outcome.Statement.{statement}
 use Rattle.stages.proofs.outcome.Tie as tie
 use Rattle.stages.proofs.outcome.Reads as reads
 use Rattle.stages.proofs.outcome.Lts as lts
-use Rattle.stages.proofs.shape.Reads as shape-reads
+use Rattle.shape.proofs.shape.Reads as shape-reads
 use Rattle.stages.proofs.stages.Reads as stages-reads
 
 -- src/lib.rt:95:9

@@ -1,0 +1,2 @@
+-- The countries of a length as code takes them.
+pub mod Letters

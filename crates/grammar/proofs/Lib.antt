@@ -1,0 +1,6 @@
+-- The written form: the reading of `paper` decides the grammar, and where it stops is the offset of refusal 2.
+pub mod Leads
+pub mod Complete
+pub mod Sound
+pub mod Decides
+pub mod AllBytes

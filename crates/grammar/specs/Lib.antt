@@ -1,0 +1,2 @@
+-- What the theorems cite beside the definitions of `paper`.
+pub mod Stays
