@@ -10,15 +10,12 @@ use Rattle.order.proofs.order.Reads as order-reads
 use Rattle.stages.proofs.judged.Reads as judged-reads
 use Rattle.rows.proofs.check.Reads as check-reads
 
--- src/lib.rt:80:9
 check-requires : tie.Need-check-requires
 check-requires c κs = search needs
 
--- src/lib.rt:81:29
 enum-known-shape : tie.Need-enum-known-shape
 enum-known-shape c = search needs
 
--- src/lib.rt:82:9
 returns : tie.Need-returns
 unfolding refusal-by
 returns c = λ root next l room. rows-refused (c .before .before .before .check .ensures root next l) (c .before .shape .given .1)
@@ -26,36 +23,28 @@ returns c = λ root next l room. rows-refused (c .before .before .before .check 
 enum-told : tie.Need-enum-told
 enum-told c = search needs
 
--- src/lib.rt:84:9
 order-requires : tie.Need-order-requires
 order-requires c κs = search needs
 
--- src/lib.rt:86:26
 enum-known-limits : tie.Need-enum-known-limits
 enum-known-limits c = search needs
 
--- src/lib.rt:87:26
 enum-known-limits-2 : tie.Need-enum-known-limits-2
 enum-known-limits-2 c = search needs
 
--- src/lib.rt:87:48
 judged-requires : tie.Need-judged-requires
 judged-requires c κs = search needs
 
--- src/lib.rt:77:1
 same-length : tie.Need-same-length
 same-length c = search needs
 
--- src/lib.rt:77:1
 returns-2 : tie.Need-returns-2
 unfolding refusal-by
 returns-2 c = λ root next l room. limits-refused (c .before .before .before .before .before .before .before .before .before .check .ensures root next l) (c .before .before .before .before .before .order .ensures .1 root next l) (c .before .before .before .before .before .before .before .enum-told .given .1) (c .before .limits .given .1)
 
--- src/lib.rt:77:1
 same-length-2 : tie.Need-same-length-2
 same-length-2 c = search needs
 
--- src/lib.rt:77:1
 returns-3 : tie.Need-returns-3
 unfolding refusal-by
 returns-3 c = λ root next l room. limits-passed (c .before .before .before .before .before .before .before .before .before .before .before .check .ensures root next l) (c .before .before .before .before .before .before .before .order .ensures .1 root next l) (c .before .before .before .before .before .before .before .before .before .enum-told .given .1) (c .before .before .before .limits2 .given .1) (omega (arith, c .before .before .before .before .before .before .before .order .kept .1 .1 .0)) (λ o b p. c .judged .ensures root next l o b p (few-payments (c .before .before .before .before .before .before .before .order .ensures .0) (c .before .before .before .limits2 .given .1)) (few-blocks (c .before .before .before .before .before .before .before .order .ensures .0) (c .before .before .before .limits2 .given .1)))
