@@ -33,7 +33,7 @@ fn lines(s: &[u8], tree: &[u16], count: usize) {
 }
 
 fn laid(s: &[u8], tree: &mut [u16]) {
-    let count = tree::lay(s, tree);
+    let count = laying::lay(s, tree);
     io::print_decimal(STDOUT_FILENO, count as u64);
     io::write_all(STDOUT_FILENO, b"\n");
     lines(s, tree, count);

@@ -19,6 +19,6 @@ pub fn shape(s: &[u8], tree: &mut [u16]) -> Finding
     if let Form::RefusedAt(offset) = form {
         return Finding::Refused(Fault::NotOfTheForm { offset });
     }
-    tree::lay(s, tree);
+    laying::lay(s, tree);
     Finding::Nothing
 }

@@ -1,4 +1,2 @@
 -- Laws that belong to no one function.
 pub mod Laws
-pub mod Laying
-pub mod Offsets

@@ -10,59 +10,45 @@ use Rattle.parts.proofs.part.Reads as part-reads
 use Rattle.table.proofs.span_of.Reads as span-of-reads
 use Rattle.tree.proofs.number.Reads as number-reads
 
--- src/lib.rt:150:16
 sub-result : tie.Need-sub-result
 sub-result c = search needs
 
--- src/lib.rt:150:16
 part-result-start : tie.Need-part-result-start
 part-result-start c = search needs
 
--- src/lib.rt:150:16
 part-result-end : tie.Need-part-result-end
 part-result-end c = search needs
 
--- src/lib.rt:150:9
 returns : tie.Need-returns
 returns c = λ root o l k. absurd (omega arith)
 
--- src/lib.rt:152:40
 mul-number : tie.Need-mul-number
 mul-number c = search needs
 
--- src/lib.rt:152:35
 add-number : tie.Need-add-number
 add-number c = search needs
 
--- src/lib.rt:152:9
 number-requires : tie.Need-number-requires
 number-requires c κs = search needs
 
--- src/lib.rt:153:42
 mul-number-2 : tie.Need-mul-number-2
 mul-number-2 c = search needs
 
--- src/lib.rt:153:37
 add-number-2 : tie.Need-add-number-2
 add-number-2 c = search needs
 
--- src/lib.rt:153:9
 number-requires-2 : tie.Need-number-requires-2
 number-requires-2 c κs = search needs
 
--- src/lib.rt:154:37
 field-at-requires : tie.Need-field-at-requires
 field-at-requires c κs = search needs
 
--- src/lib.rt:154:9
 span-of-requires : tie.Need-span-of-requires
 span-of-requires c κs = search needs
 
--- src/lib.rt:155:5
 part-requires : tie.Need-part-requires
 part-requires c κs = search needs
 
--- src/lib.rt:146:1
 returns-2 : tie.Need-returns-2
 returns-2 c = λ root o l k. found-part (c .before .before .before .before .before .before .before .before .before .args .k) (c .before .before .before .before .before .before .before .before .before .args .field) o l (c .before .before .before .before .number .ensures) (c .before .before .before .number2 .ensures) (c .before .before .field-at .ensures) (λ t u. c .before .span-of .ensures t u) (c .part .ensures)
 

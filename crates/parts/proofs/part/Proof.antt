@@ -8,59 +8,45 @@ use Rattle.parts.proofs.part.Tie as tie
 use Rattle.parts.proofs.part.Reads as reads
 use Rattle.parts.proofs.part.Lts as lts
 
--- src/lib.rt:136:16
 sub-result : tie.Need-sub-result
 sub-result c = search needs
 
--- src/lib.rt:136:16
 part-result-start : tie.Need-part-result-start
 part-result-start c = search needs
 
--- src/lib.rt:136:16
 part-result-end : tie.Need-part-result-end
 part-result-end c = search needs
 
--- src/lib.rt:136:9
 returns : tie.Need-returns
 returns c = λ h. absurd (omega arith)
 
--- src/lib.rt:138:8
 sub-if2 : tie.Need-sub-if2
 sub-if2 c = search needs
 
--- src/lib.rt:139:16
 sub-result-2 : tie.Need-sub-result-2
 sub-result-2 c = search needs
 
--- src/lib.rt:139:16
 part-result-start-2 : tie.Need-part-result-start-2
 part-result-start-2 c = search needs
 
--- src/lib.rt:139:16
 part-result-end-2 : tie.Need-part-result-end-2
 part-result-end-2 c = search needs
 
--- src/lib.rt:139:9
 returns-2 : tie.Need-returns-2
 returns-2 c = λ h. absurd (omega arith)
 
--- src/lib.rt:141:15
 add-end : tie.Need-add-end
 add-end c = search needs
 
--- src/lib.rt:142:5
 sub-result-3 : tie.Need-sub-result-3
 sub-result-3 c = search needs
 
--- src/lib.rt:142:5
 part-result-start-3 : tie.Need-part-result-start-3
 part-result-start-3 c = search needs
 
--- src/lib.rt:142:5
 part-result-end-3 : tie.Need-part-result-end-3
 part-result-end-3 c = search needs
 
--- src/lib.rt:132:1
 returns-3 : tie.Need-returns-3
 returns-3 c = λ h. record { bytes-are = so-many (now (c .before .before .before .args .message)) (c .before .before .before .args .start) (c .before .before .before .args .size); in-the-message = refl; at-its-place = search needs }
 

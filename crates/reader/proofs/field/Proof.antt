@@ -11,71 +11,54 @@ use Rattle.reader.proofs.field.Lts as lts
 use Rattle.parts.proofs.field_in.Reads as field-in-reads
 use Rattle.stages.proofs.outcome.Reads as outcome-reads
 
--- src/lib.rt:164:34
 slice-aggregate-outcome : tie.Need-slice-aggregate-outcome
 slice-aggregate-outcome c = search needs
 
--- src/lib.rt:164:45
 slice-aggregate-outcome-2 : tie.Need-slice-aggregate-outcome-2
 slice-aggregate-outcome-2 c = search needs
 
--- src/lib.rt:164:9
 outcome-requires : tie.Need-outcome-requires
 outcome-requires c κs = search needs
 
--- src/lib.rt:166:32
 enum-told : tie.Need-enum-told
 enum-told c = search needs
 
--- src/lib.rt:166:32
 sub-result : tie.Need-sub-result
 sub-result c = search needs
 
--- src/lib.rt:166:32
 part-result-start : tie.Need-part-result-start
 part-result-start c = search needs
 
--- src/lib.rt:166:32
 part-result-end : tie.Need-part-result-end
 part-result-end c = search needs
 
--- src/lib.rt:167:40
 enum-known-found : tie.Need-enum-known-found
 enum-known-found c = search needs
 
--- src/lib.rt:169:24
 sub-result-2 : tie.Need-sub-result-2
 sub-result-2 c = search needs
 
--- src/lib.rt:169:24
 part-result-start-2 : tie.Need-part-result-start-2
 part-result-start-2 c = search needs
 
--- src/lib.rt:169:24
 part-result-end-2 : tie.Need-part-result-end-2
 part-result-end-2 c = search needs
 
--- src/lib.rt:169:17
 returns : tie.Need-returns
 returns c = no-such-payment (c .before .before .before .before .before .before .before .before .before .before .before .args .payment) (c .before .before .before .before .before .before .before .before .before .before .before .args .field) (c .before .before .before .before .before .before .before .outcome .ensures (omega (arith, length-replicate {A = ℕ} 54615 0)) (omega (arith, length-replicate {A = ℕ} 208 0))) (c .before .before .before .found .given .1) (c .before .if1 .taken) (record { bytes-are = refl; in-the-message = refl; at-its-place = search needs })
 
--- src/lib.rt:171:31
 slice-aggregate-field-in : tie.Need-slice-aggregate-field-in
 slice-aggregate-field-in c = search needs
 
--- src/lib.rt:171:38
 slice-aggregate-field-in-2 : tie.Need-slice-aggregate-field-in-2
 slice-aggregate-field-in-2 c = search needs
 
--- src/lib.rt:171:13
 field-in-requires : tie.Need-field-in-requires
 field-in-requires c κs = search needs
 
--- src/lib.rt:159:1
 returns-2 : tie.Need-returns-2
 returns-2 c = no-field (c .before .before .before .before .before .before .before .before .before .args .payment) (c .before .before .before .before .before .before .before .before .before .args .field) (c .before .before .before .before .before .outcome .ensures (omega (arith, length-replicate {A = ℕ} 54615 0)) (omega (arith, length-replicate {A = ℕ} 208 0))) (c .before .enum-told .given .1) (record { bytes-are = refl; in-the-message = refl; at-its-place = search needs })
 
--- src/lib.rt:159:1
 returns-3 : tie.Need-returns-3
 returns-3 c = the-field (c .before .before .before .before .before .before .before .before .before .before .before .before .before .args .payment) (c .before .before .before .before .before .before .before .before .before .before .before .before .before .args .field) (c .before .before .before .before .before .before .before .before .before .outcome .ensures (omega (arith, length-replicate {A = ℕ} 54615 0)) (omega (arith, length-replicate {A = ℕ} 208 0))) (c .before .before .before .before .before .found .given .1) (c .before .before .before .if1 .left) (c .field-in .ensures)
 

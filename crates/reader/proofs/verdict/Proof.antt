@@ -11,51 +11,39 @@ use Rattle.reader.proofs.verdict.Lts as lts
 use Rattle.stages.proofs.outcome.Reads as outcome-reads
 use Rattle.table.proofs.fill.Reads as fill-reads
 
--- src/lib.rt:108:9
 returns : tie.Need-returns
 returns c = too-short (now (c .before .before .before .args .message)) (now (c .before .before .before .args .table)) (c .if1 .taken)
 
--- src/lib.rt:112:34
 slice-aggregate-outcome : tie.Need-slice-aggregate-outcome
 slice-aggregate-outcome c = search needs
 
--- src/lib.rt:112:45
 slice-aggregate-outcome-2 : tie.Need-slice-aggregate-outcome-2
 slice-aggregate-outcome-2 c = search needs
 
--- src/lib.rt:112:9
 outcome-requires : tie.Need-outcome-requires
 outcome-requires c κs = search needs
 
--- src/lib.rt:114:26
 enum-known-found : tie.Need-enum-known-found
 enum-known-found c = search needs
 
--- src/lib.rt:115:29
 enum-known-found-2 : tie.Need-enum-known-found-2
 enum-known-found-2 c = search needs
 
--- src/lib.rt:116:34
 slice-aggregate-fill : tie.Need-slice-aggregate-fill
 slice-aggregate-fill c = search needs
 
--- src/lib.rt:116:41
 slice-aggregate-fill-2 : tie.Need-slice-aggregate-fill-2
 slice-aggregate-fill-2 c = search needs
 
--- src/lib.rt:116:13
 fill-requires : tie.Need-fill-requires
 fill-requires c κs = search needs
 
--- src/lib.rt:104:1
 returns-2 : tie.Need-returns-2
 returns-2 c = refused-answers (c .before .before .before .before .before .before .before .before .if1 .left) (c .before .before .before .before .before .outcome .ensures (omega (arith, length-replicate {A = ℕ} 54615 0)) (omega (arith, length-replicate {A = ℕ} 208 0))) (c .before .found .given .1)
 
--- src/lib.rt:104:1
 same-length : tie.Need-same-length
 same-length c = search needs
 
--- src/lib.rt:104:1
 returns-3 : tie.Need-returns-3
 returns-3 c = accepted-answers (c .before .before .before .before .before .before .before .before .before .before .before .before .before .before .if1 .left) (c .before .before .before .before .before .before .before .before .before .before .before .outcome .ensures (omega (arith, length-replicate {A = ℕ} 54615 0)) (omega (arith, length-replicate {A = ℕ} 208 0))) (c .before .before .before .before .before .before .before .found2 .given .1) (c .before .before .fill .ensures)
 

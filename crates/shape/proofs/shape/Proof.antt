@@ -8,36 +8,29 @@ use Rattle.shape.proofs.shape.Tie as tie
 use Rattle.shape.proofs.shape.Reads as reads
 use Rattle.shape.proofs.shape.Lts as lts
 use Rattle.form.proofs.form_of.Reads as form-of-reads
-use Rattle.tree.proofs.lay.Reads as lay-reads
+use Rattle.laying.proofs.lay.Reads as lay-reads
 
--- src/lib.rt:26:9
 returns : tie.Need-returns
 returns c = (λ h. not-shaped (too-long (now (c .before .before .before .args .s)) (c .if1 .taken)), refl)
 
--- src/lib.rt:28:9
 form-of-requires : tie.Need-form-of-requires
 form-of-requires c κs = search needs
 
--- src/lib.rt:29:28
 enum-known-form : tie.Need-enum-known-form
 enum-known-form c = search needs
 
--- src/lib.rt:30:9
 returns-2 : tie.Need-returns-2
 returns-2 c = (λ h. shaped-refused (now (c .before .before .before .before .before .before .before .args .s)) _ (c .before .before .before .form-of .ensures) (c .before .form .given .1) (c .before .before .before .before .if1 .left), refl)
 
 enum-told : tie.Need-enum-told
 enum-told c = search needs
 
--- src/lib.rt:32:5
 lay-requires : tie.Need-lay-requires
 lay-requires c κs = search needs
 
--- src/lib.rt:21:1
 same-length : tie.Need-same-length
 same-length c = search needs
 
--- src/lib.rt:21:1
 returns-3 : tie.Need-returns-3
 returns-3 c = (λ h. shaped-form (now (c .before .before .before .before .before .before .before .before .before .before .args .s)) _ (c .before .before .before .before .before .before .form-of .ensures) (c .before .before .before .before .enum-told .given .1) (c .before .before .before .before .before .before .before .if1 .left) (λ root m. c .before .before .lay .ensures .0 root m (c .before .before .before .before .before .before .before .if1 .left) h), c .before .before .lay .ensures .1)
 

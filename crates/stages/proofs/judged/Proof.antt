@@ -8,52 +8,42 @@ use Rattle.ids.proofs.ids.Reads as ids-reads
 use Rattle.stages.proofs.sums.Reads as sums-reads
 use Rattle.usage.proofs.usage.Reads as usage-reads
 
--- src/lib.rt:69:29
 enum-known-values : tie.Need-enum-known-values
 enum-known-values c = search needs
 
--- src/lib.rt:70:9
 returns : tie.Need-returns
 returns c = λ root next l v o b p few small. first-refuses _ _ v (c .before .values .given .1)
 
 enum-told : tie.Need-enum-told
 enum-told c = search needs
 
--- src/lib.rt:72:9
 usage-requires : tie.Need-usage-requires
 usage-requires c κs = search needs
 
--- src/lib.rt:73:29
 enum-known-usage : tie.Need-enum-known-usage
 enum-known-usage c = search needs
 
--- src/lib.rt:74:9
 returns-2 : tie.Need-returns-2
 returns-2 c = λ root next l v o b p few small. later-passes _ _ v (c .before .before .before .before .enum-told .given .1) (first-refuses _ _ (c .before .before .before .usage .ensures root o p few) (c .before .usage2 .given .1))
 
 enum-told-2 : tie.Need-enum-told-2
 enum-told-2 c = search needs
 
--- src/lib.rt:76:9
 ids-requires : tie.Need-ids-requires
 ids-requires c κs = search needs
 
--- src/lib.rt:77:29
 enum-known-ids : tie.Need-enum-known-ids
 enum-known-ids c = search needs
 
--- src/lib.rt:78:9
 returns-3 : tie.Need-returns-3
 returns-3 c = λ root next l v o b p few small. later-passes _ _ v (c .before .before .before .before .before .before .before .enum-told .given .1) (later-passes _ _ (c .before .before .before .before .before .before .usage .ensures root o p few) (c .before .before .before .before .enum-told2 .given .1) (first-refuses _ _ (c .before .before .before .ids .ensures root o b) (c .before .ids2 .given .1)))
 
 enum-told-3 : tie.Need-enum-told-3
 enum-told-3 c = search needs
 
--- src/lib.rt:80:5
 sums-requires : tie.Need-sums-requires
 sums-requires c κs = search needs
 
--- src/lib.rt:59:1
 returns-4 : tie.Need-returns-4
 returns-4 c = λ root next l v o b p few small. later-passes _ _ v (c .before .before .before .before .before .before .before .enum-told .given .1) (later-passes _ _ (c .before .before .before .before .before .before .usage .ensures root o p few) (c .before .before .before .before .enum-told2 .given .1) (later-passes _ _ (c .before .before .before .ids .ensures root o b) (c .before .enum-told3 .given .1) (c .sums .ensures root next l o b p few (no-values-refusal root v (c .before .before .before .before .before .before .before .enum-told .given .1)) small)))
 

@@ -8,35 +8,27 @@ use Rattle.stages.proofs.limited.Lts as lts
 use Rattle.order.proofs.order.Reads as order-reads
 use Rattle.stages.proofs.judged.Reads as judged-reads
 
--- src/lib.rt:87:9
 order-requires : tie.Need-order-requires
 order-requires c κs = search needs
 
--- src/lib.rt:89:26
 enum-known-limits : tie.Need-enum-known-limits
 enum-known-limits c = search needs
 
--- src/lib.rt:90:26
 enum-known-limits-2 : tie.Need-enum-known-limits-2
 enum-known-limits-2 c = search needs
 
--- src/lib.rt:90:48
 judged-requires : tie.Need-judged-requires
 judged-requires c κs = search needs
 
--- src/lib.rt:84:1
 same-length : tie.Need-same-length
 same-length c = search needs
 
--- src/lib.rt:84:1
 returns : tie.Need-returns
 returns c = λ root next l room n v. limits-refused n (c .before .before .before .before .before .order .ensures .1 root next l) (c .before .limits .given .1)
 
--- src/lib.rt:84:1
 same-length-2 : tie.Need-same-length-2
 same-length-2 c = search needs
 
--- src/lib.rt:84:1
 returns-2 : tie.Need-returns-2
 returns-2 c = λ root next l room n v. limits-passed n (c .before .before .before .before .before .before .before .order .ensures .1 root next l) (c .before .before .before .limits2 .given .1) (omega (arith, c .before .before .before .before .before .before .before .order .kept .1 .1 .0)) (λ o b p. c .judged .ensures root next l v o b p (few-payments (c .before .before .before .before .before .before .before .order .ensures .0) (c .before .before .before .limits2 .given .1)) (few-blocks (c .before .before .before .before .before .before .before .order .ensures .0) (c .before .before .before .limits2 .given .1)))
 

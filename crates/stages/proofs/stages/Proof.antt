@@ -8,31 +8,24 @@ use Rattle.stages.proofs.stages.Lts as lts
 use Rattle.rows.proofs.check.Reads as check-reads
 use Rattle.stages.proofs.limited.Reads as limited-reads
 
--- src/lib.rt:98:9
 check-requires : tie.Need-check-requires
 check-requires c κs = search needs
 
--- src/lib.rt:100:46
 enum-told : tie.Need-enum-told
 enum-told c = search needs
 
--- src/lib.rt:100:29
 limited-requires : tie.Need-limited-requires
 limited-requires c κs = search needs
 
--- src/lib.rt:101:26
 enum-known-values : tie.Need-enum-known-values
 enum-known-values c = search needs
 
--- src/lib.rt:102:17
 check-requires-2 : tie.Need-check-requires-2
 check-requires-2 c κs = search needs
 
--- src/lib.rt:103:37
 enum-known-shape : tie.Need-enum-known-shape
 enum-known-shape c = search needs
 
--- src/lib.rt:104:17
 returns : tie.Need-returns
 unfolding refusal-by
 returns c = λ root next l room. rows-refused (c .before .before .before .check2 .ensures root next l) (c .before .shape .given .1)
@@ -40,24 +33,19 @@ returns c = λ root next l room. rows-refused (c .before .before .before .check2
 enum-told-2 : tie.Need-enum-told-2
 enum-told-2 c = search needs
 
--- src/lib.rt:106:13
 limited-requires-2 : tie.Need-limited-requires-2
 limited-requires-2 c κs = search needs
 
--- src/lib.rt:95:1
 same-length : tie.Need-same-length
 same-length c = search needs
 
--- src/lib.rt:95:1
 returns-2 : tie.Need-returns-2
 unfolding refusal-by
 returns-2 c = λ root next l room. c .before .before .limited .ensures root next l room (rows-too root (no-values-refusal root (c .before .before .before .before .before .before .check .ensures root next l) (c .before .before .before .before .enum-told .given .1))) (found-as (c .before .before .before .before .before .before .check .ensures root next l) (c .before .before .before .before .enum-told .given .1))
 
--- src/lib.rt:95:1
 same-length-2 : tie.Need-same-length-2
 same-length-2 c = search needs
 
--- src/lib.rt:95:1
 returns-3 : tie.Need-returns-3
 unfolding refusal-by
 returns-3 c = λ root next l room. c .before .before .limited2 .ensures root next l room (no-rows-refusal root (c .before .before .before .before .before .before .check2 .ensures root next l) (c .before .before .before .before .enum-told2 .given .1)) (found-as (c .before .before .before .before .before .before .before .before .before .before .check .ensures root next l) (c .before .before .before .before .before .before .before .before .values .given .1))

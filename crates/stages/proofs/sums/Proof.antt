@@ -8,39 +8,30 @@ use Rattle.stages.proofs.sums.Lts as lts
 use Rattle.counts.proofs.counts.Reads as counts-reads
 use Rattle.totals.proofs.total_cents.Reads as total-cents-reads
 
--- src/lib.rt:40:9
 total-cents-requires : tie.Need-total-cents-requires
 total-cents-requires c κs = search needs
 
--- src/lib.rt:42:27
 enum-known-total : tie.Need-enum-known-total
 enum-known-total c = search needs
 
--- src/lib.rt:43:22
 enum-known-total-2 : tie.Need-enum-known-total-2
 enum-known-total-2 c = search needs
 
--- src/lib.rt:44:17
 counts-requires : tie.Need-counts-requires
 counts-requires c κs = search needs
 
--- src/lib.rt:46:34
 enum-known-found : tie.Need-enum-known-found
 enum-known-found c = search needs
 
--- src/lib.rt:47:37
 enum-told : tie.Need-enum-told
 enum-told c = search needs
 
--- src/lib.rt:37:1
 returns : tie.Need-returns
 returns c = λ root next l o b p few v small. total-refused (c .before .before .before .total-cents .ensures root next l o p few (readable root v)) (c .before .total .given .1)
 
--- src/lib.rt:37:1
 returns-2 : tie.Need-returns-2
 returns-2 c = λ root next l o b p few v small. counts-refused (c .before .before .before .before .before .before .before .total-cents .ensures root next l o p few (readable root v)) (c .before .before .before .before .before .total2 .given .1) (c .before .before .before .counts .ensures root next l o b p few (the-total (c .before .before .before .before .before .before .before .total-cents .ensures root next l o p few (readable root v)) (c .before .before .before .before .before .total2 .given .1)) (readable root v)) (c .before .found .given .1)
 
--- src/lib.rt:37:1
 returns-3 : tie.Need-returns-3
 returns-3 c = λ root next l o b p few v small. all-passed (c .before .before .before .before .before .before .total-cents .ensures root next l o p few (readable root v)) (c .before .before .before .before .total2 .given .1) (c .before .before .counts .ensures root next l o b p few (the-total (c .before .before .before .before .before .before .total-cents .ensures root next l o p few (readable root v)) (c .before .before .before .before .total2 .given .1)) (readable root v)) (c .enum-told .given .1) o b p few small v
 

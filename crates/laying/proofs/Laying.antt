@@ -9,10 +9,10 @@ use lib.ListN.{length, getD, set, length-set}
 use lib.Seq.{getD-set-same, getD-set-other}
 use Rattle.paper.specs.Form.{Head, Element, Elements, holding-text, holding-elements, []ᵉ, _∷ᵉ_, IsMessage}
 use Rattle.paper.specs.Rows.{head-of}
 use Rattle.tree.specs.Laid.{Entry, Laid, laid-text, laid-elements, LaidAll, laid-none, laid-more}
-use Rattle.tree.specs.Lies.{First, Tags, held, Holds, Lies, lies, LieAll, lie-none, lie-more, RootAt, at-first, behind-declaration, Room, Kept, Stored, PutDown, LaysOne, LaysAll}
+use Rattle.laying.specs.Lies.{First, Tags, held, Holds, Lies, lies, LieAll, lie-none, lie-more, RootAt, at-first, behind-declaration, Room, Kept, Stored, PutDown, LaysOne, LaysAll}
 use Rattle.tree.proofs.Laws.{entry-of}
-use Rattle.tree.proofs.Offsets.{message-placed}
+use Rattle.laying.proofs.Offsets.{message-placed}
 
 -- the walk to the first of two bytes: it ends there, and at no byte before
 module _ {s : List ℕ} {from one other i : ℕ} (f : First s from one other i) {at : ℕ} (h : from ≤ at) (l : at ≤ i) where

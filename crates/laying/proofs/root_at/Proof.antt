@@ -1,8 +1,8 @@
 use borrow.Author.Needs.{needs}
 use mathlib.Core.Path.{sym, _∙_}
-use Rattle.tree.proofs.Laying.{root-missing, root-plain, root-declared}
-use Rattle.tree.proofs.root_at.Statement.{statement}
-use Rattle.tree.proofs.root_at.Tie as tie
+use Rattle.laying.proofs.Laying.{root-missing, root-plain, root-declared}
+use Rattle.laying.proofs.root_at.Statement.{statement}
+use Rattle.laying.proofs.root_at.Tie as tie
 
 find-requires : tie.Need-find-requires
 find-requires c κs = search needs

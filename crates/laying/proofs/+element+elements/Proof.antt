@@ -2,21 +2,21 @@ use Prim.Native.Nat.{ℕ, _+_, _*_, _-_, _<_}
 use mathlib.Core.Path.{sym, _∙_}
 use native.Mathlib.Omega.{arith}
 use borrow.Author.Needs.{needs}
-use Rattle.tree.proofs.Laying.{Laying, laying-begins, laying-ends, laying-breaks, laying-fails, laying-goes-on, too-deep, too-many, no-tag-end, one-laid}
+use Rattle.laying.proofs.Laying.{Laying, laying-begins, laying-ends, laying-breaks, laying-fails, laying-goes-on, too-deep, too-many, no-tag-end, one-laid}
 use borrow.Fn.Kinds.{In}
 use borrow.Fn.PlainCycle.{Measures, is, falls, and}
-use Rattle.tree.proofs.element.Reads as element
-use Rattle.tree.proofs.element.Kinds as element-kinds
-use Rattle.tree.proofs.+element+elements.Lts-element as element-lts
-use Rattle.tree.proofs.elements.Reads as elements
-use Rattle.tree.proofs.elements.Kinds as elements-kinds
-use Rattle.tree.proofs.+element+elements.Lts-elements as elements-lts
+use Rattle.laying.proofs.element.Reads as element
+use Rattle.laying.proofs.element.Kinds as element-kinds
+use Rattle.laying.proofs.+element+elements.Lts-element as element-lts
+use Rattle.laying.proofs.elements.Reads as elements
+use Rattle.laying.proofs.elements.Kinds as elements-kinds
+use Rattle.laying.proofs.+element+elements.Lts-elements as elements-lts
 use Rattle.texts.proofs.byte_at.Reads as byte-at-reads
-use Rattle.tree.proofs.behind.Reads as behind-reads
-use Rattle.tree.proofs.find.Reads as find-reads
-use Rattle.tree.proofs.put_down.Reads as put-down-reads
-use Rattle.tree.proofs.+element+elements.{statement}
-use Rattle.tree.proofs.+element+elements.Tie.{close}
+use Rattle.laying.proofs.behind.Reads as behind-reads
+use Rattle.laying.proofs.find.Reads as find-reads
+use Rattle.laying.proofs.put_down.Reads as put-down-reads
+use Rattle.laying.proofs.+element+elements.{statement}
+use Rattle.laying.proofs.+element+elements.Tie.{close}
 
 abbrev μ-element : Measures 2 element-kinds.ps ℕ
 μ-element κs a = 2 * (13 - a .1 .1 .1 .1 .0)

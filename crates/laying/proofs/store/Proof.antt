@@ -1,8 +1,8 @@
 use borrow.Author.Needs.{needs}
 use denote.Ref.{now}
-use Rattle.tree.proofs.Laying.{stored-set}
-use Rattle.tree.proofs.store.Statement.{statement}
-use Rattle.tree.proofs.store.Tie as tie
+use Rattle.laying.proofs.Laying.{stored-set}
+use Rattle.laying.proofs.store.Statement.{statement}
+use Rattle.laying.proofs.store.Tie as tie
 
 returns : tie.Need-returns
 returns c = search needs

@@ -2,10 +2,10 @@ use borrow.Author.Needs.{needs}
 use native.Mathlib.Omega.{arith}
 use Prim.Native.Nat.{ℕ, _≤_, _-_}
 use lib.ListN.{length}
-use Rattle.tree.specs.Lies.{First}
-use Rattle.tree.proofs.Laying.{ends-at-one, ends-at-other, goes-on}
-use Rattle.tree.proofs.find.Statement.{statement}
-use Rattle.tree.proofs.find.Tie as tie
+use Rattle.laying.specs.Lies.{First}
+use Rattle.laying.proofs.Laying.{ends-at-one, ends-at-other, goes-on}
+use Rattle.laying.proofs.find.Statement.{statement}
+use Rattle.laying.proofs.find.Tie as tie
 
 abbrev Inv-loop : tie.InvT-loop
 Inv-loop s from one other at₀ at = (from ≤ at) × ((i : ℕ) → First s from one other i → at ≤ i)

@@ -1,7 +1,7 @@
 use borrow.Author.Needs.{needs}
-use Rattle.tree.proofs.Laying.{put-down}
-use Rattle.tree.proofs.put_down.Statement.{statement}
-use Rattle.tree.proofs.put_down.Tie as tie
+use Rattle.laying.proofs.Laying.{put-down}
+use Rattle.laying.proofs.put_down.Statement.{statement}
+use Rattle.laying.proofs.put_down.Tie as tie
 
 mul-store : tie.Need-mul-store
 mul-store c = search needs

@@ -15,8 +15,8 @@ use Rattle.paper.specs.Bytes.{bytes, is, from-to, one-of, white, text-byte, cap
 use Rattle.paper.specs.Form.{Element, Elements, holding-text, holding-elements, []ᵉ, _∷ᵉ_, IsName, letter-and, root-tag, start-tag, amount-tag, end-tag, IsStartTag, root, amount, plain, head, IsElement, of-text, of-elements, no-more, one-more, declaration, IsDeclaration, absent, present, IsMessage, message}
 use Rattle.paper.specs.Rows.{head-of}
 use Rattle.paper.proofs.Laws.{false-not-true, every-says}
 use Rattle.tree.specs.Laid.{between, Written}
-use Rattle.tree.specs.Lies.{First, Tags, held, Holds, Lies, lies, LieAll, lie-none, lie-more, RootAt, at-first, behind-declaration}
+use Rattle.laying.specs.Lies.{First, Tags, held, Holds, Lies, lies, LieAll, lie-none, lie-more, RootAt, at-first, behind-declaration}
 
 -- a text from an offset on: what stands further on, a byte of it, a part of it
 module _ (s : List ℕ) (at : ℕ) where

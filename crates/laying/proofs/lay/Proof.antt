@@ -1,8 +1,8 @@
 use borrow.Author.Needs.{needs}
 use native.Mathlib.Omega.{arith}
-use Rattle.tree.proofs.Laying.{root-laid}
-use Rattle.tree.proofs.lay.Statement.{statement}
-use Rattle.tree.proofs.lay.Tie as tie
+use Rattle.laying.proofs.Laying.{root-laid}
+use Rattle.laying.proofs.lay.Statement.{statement}
+use Rattle.laying.proofs.lay.Tie as tie
 
 returns : tie.Need-returns
 returns c = (λ root m short long. absurd (omega arith), search needs)
