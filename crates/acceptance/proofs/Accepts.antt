@@ -1,11 +1,11 @@
 -- Demand 2 on the definitions: where the table is long enough, the verdict accepts a message exactly where `Accepted` holds of it.
 use Prim.Native.Nat.{ℕ, _≤_}
 use mathlib.Core.List.{List}
-use mathlib.Core.Path.{_≡_, refl, sym, _∙_, ap}
+use mathlib.Core.Path.{_≡_, ap}
 use mathlib.Core.Logic.{_↔_}
 use Rattle.paper.specs.Form.{Element}
 use Rattle.paper.specs.Rows.{Row, rows, row-of}
-use Rattle.paper.specs.Refusals.{Outcome, refused-as, accepted-with, outcome-alone, outcome, least-table}
+use Rattle.paper.specs.Refusals.{accepted-with, outcome-alone, outcome, least-table}
 use Rattle.paper.specs.Accepted.{Accepted}
 use Rattle.grammar.proofs.Complete.{complete}
 use Rattle.grammar.proofs.Sound.{sound}

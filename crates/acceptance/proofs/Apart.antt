@@ -1,12 +1,12 @@
 -- In no group of document 01's table have two rows one name: one computed test over the table.
 use Prim.Native.Nat.{ℕ}
-use mathlib.Core.List.{List, [], _∷_, _++_}
+use mathlib.Core.List.{List, [], _∷_}
 use mathlib.Core.Bool.{Bool, true, false, _&&_, _||_, not}
 use mathlib.Core.Path.{_≡_, refl, sym, ap, _∙_}
 use lib.Dec.{eqb}
 use borrow.Author.Tests.{not-true}
 use Rattle.paper.specs.Bytes.{if_then_else_, bytes, same}
-use Rattle.paper.specs.Rows.{Place, Holds, text, elements, Row, leaf, group, group-under, rows, row-of}
+use Rattle.paper.specs.Rows.{Holds, text, elements, Row, leaf, group, group-under, rows, row-of}
 use Rattle.paper.specs.Refusals.{rows-at}
 use Rattle.paper.specs.Accepted.{All, all-none, all-more}
 use Rattle.paper.proofs.Laws.{false-not-true, both-left, both-right, same-tests}

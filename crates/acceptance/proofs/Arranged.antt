@@ -4,12 +4,12 @@ use native.Mathlib.Omega.{arith}
 use mathlib.Core.List.{List, [], _∷_, _++_, List·Memᴰ, List·Memᴰ·head, List·Memᴰ·tail, List·Memᴰ·cases-cons, List·Memᴰ·eq-of-singleton, List·Memᴰ·not-nil, Memᴰ·append-left, Memᴰ·append-right}
 use mathlib.Core.Bool.{Bool, true, false}
 use mathlib.Core.Option.{Option, none, some}
-use mathlib.Core.Path.{_≡_, refl, sym, _∙_, ap, subst}
+use mathlib.Core.Path.{_≡_, refl, sym, ap, subst}
 use mathlib.Core.Logic.{⊎-elim}
 use Rattle.paper.specs.Bytes.{if_then_else_, same}
 use Rattle.paper.specs.Rows.{Place, one, opt, plus, either, further, Row, row-of, Arranged, end, exactly-one, there, not-there, at-least-one, one-further, no-further, chosen}
-use Rattle.paper.specs.Accepted.{All, all-none, all-more}
-use Rattle.paper.specs.Refusals.{rows-at, required, left-of, first-row, missing, Sought, never, early, found, past, named-in, seek}
+use Rattle.paper.specs.Accepted.{All}
+use Rattle.paper.specs.Refusals.{rows-at, required, left-of, missing, Sought, never, early, found, past, named-in, seek}
 use Rattle.paper.proofs.Laws.{false-not-true, some-not-none, same-says, same-tests, same-differs, all-member}
 
 -- Nothing required is left exactly where no child is an arrangement.

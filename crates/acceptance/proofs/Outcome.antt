@@ -1,6 +1,6 @@
 -- The verdict accepts a message, with a root, exactly where the table is long enough, the message is not too long, its reading gives that root, and
 -- the root's tree is accepted.
-use Prim.Native.Nat.{ℕ, _≤_, _<_}
+use Prim.Native.Nat.{ℕ, _≤_}
 use mathlib.Core.List.{List}
 use mathlib.Core.Bool.{Bool, true, false}
 use mathlib.Core.Option.{Option, none, some}
@@ -14,7 +14,7 @@ use Rattle.paper.specs.Bytes.{if_then_else_}
 use Rattle.paper.specs.Form.{Element}
 use Rattle.paper.specs.Reading.{Reading, root-is, stops-at, read}
 use Rattle.paper.specs.Rows.{Row, row-of}
-use Rattle.paper.specs.Refusals.{Refusal, refuse, Outcome, refused-as, accepted-with, unless-refused, of-reading, tree-refusal, outcome-alone, outcome, size-refusal, table-refusal, largest-message, least-table}
+use Rattle.paper.specs.Refusals.{Refusal, refuse, Outcome, accepted-with, unless-refused, of-reading, tree-refusal, outcome-alone, outcome, size-refusal, table-refusal, largest-message, least-table}
 use Rattle.paper.specs.Accepted.{AcceptedTree}
 use Rattle.acceptance.proofs.Rows.{RowsApart, refuses}
 use Rattle.acceptance.proofs.Stages.{no-refusal-accepted, accepted-no-refusal}

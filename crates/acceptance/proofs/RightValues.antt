@@ -1,17 +1,17 @@
 -- What the walk of 6 to 8 leaves right: header, blocks and payments of a message in which it refuses nothing.
 use Prim.Native.Nat.{ℕ, suc}
-use mathlib.Core.List.{List, [], _∷_, _++_, map}
-use mathlib.Core.Bool.{Bool, true}
+use mathlib.Core.List.{List, [], _∷_, map}
+use mathlib.Core.Bool.{true}
 use mathlib.Core.Option.{Option, none, some}
 use mathlib.Core.Path.{_≡_, refl, sym, _∙_, ap, subst}
 use Rattle.paper.specs.Bytes.{bytes}
 use Rattle.paper.specs.Form.{Element}
-use Rattle.paper.specs.Rows.{Row, rows, row-of, leaf, group, group-under, text, elements, head-of, Conforms}
+use Rattle.paper.specs.Rows.{rows, row-of, leaf, group, group-under, text, head-of, Conforms}
 use Rattle.paper.specs.Values.{among}
 use Rattle.paper.specs.Payments.{Payment, all-of, child, follow, blocks, of-header, payments, payments-of, payments-from, text-of}
 use Rattle.paper.specs.Refusals.{values-refusal, rows-at}
 use Rattle.paper.specs.Accepted.{All, all-none, all-more, RightText}
-use Rattle.paper.proofs.Laws.{some-not-none}
+use Rattle.paper.proofs.Laws.{some-not-none, all-joined}
 use Rattle.acceptance.proofs.Arranged.{rows-of}
 use Rattle.acceptance.proofs.Apart.{rows-apart}
 use Rattle.acceptance.proofs.Routes.{takes, all-conform, child-conforms, leaf-conforms}
@@ -59,14 +59,10 @@ mapped : (n : ℕ) (b : Element) {ts : List Element} → All (RightAs 10 37) ts 
 mapped n b all-none = all-none
 mapped n b (all-more h k) = all-more h (mapped n b k)
 
-joined : {P : Payment → Type 0} {l m : List Payment} → All P l → All P m → All P (l ++ m)
-joined all-none k = k
-joined (all-more p h) k = all-more p (joined h k)
-
 payments-of-blocks : (n : ℕ) {bs : List Element} → All (RightAs 2 10) bs → All (λ (p : Payment). RightAs 10 37 (p .own)) (payments-from rows n bs)
 unfolding payments-from payments-of
 payments-of-blocks n all-none = all-none
-payments-of-blocks n (all-more {a = b} h k) = joined (mapped n b (block-payments b h)) (payments-of-blocks (suc n) k)
+payments-of-blocks n (all-more {a = b} h k) = all-joined (mapped n b (block-payments b h)) (payments-of-blocks (suc n) k)
 
 -- a leaf of a block, and the amount of a payment
 pub block-leaf-right : (b : Element) → RightAs 2 10 b → (k longest : ℕ) (t : Element) → takes (row-of rows 2 10) k ≡ true → row-of rows 10 k .holds ≡ text longest

@@ -1,21 +1,19 @@
 -- In an element that conforms to its row, what is found as a child of row k conforms to row k; and so along a route of rows.
 use Prim.Native.Nat.{ℕ}
 use native.Mathlib.Omega.{arith}
-use mathlib.Core.List.{List, [], _∷_, _++_, List·Memᴰ, List·Memᴰ·head, List·Memᴰ·tail, List·Memᴰ·cases-cons, List·Memᴰ·not-nil, Memᴰ·append-left, Memᴰ·append-right}
-use mathlib.Core.Bool.{Bool, true, false, _||_}
+use mathlib.Core.List.{List, [], _∷_, _++_, List·Memᴰ, List·Memᴰ·head, List·Memᴰ·cases-cons, List·Memᴰ·not-nil, Memᴰ·append-left, Memᴰ·append-right}
+use mathlib.Core.Bool.{Bool, true, false}
 use mathlib.Core.Option.{Option, none, some}
 use mathlib.Core.Path.{_≡_, refl, sym, _∙_, ap, subst}
 use mathlib.Core.Logic.{⊎-elim}
-use lib.Dec.{eqb}
-use borrow.Author.Tests.{eqb-true}
 use Rattle.paper.specs.Bytes.{if_then_else_, white, same, Every}
 use Rattle.paper.specs.Form.{Head, Element, Elements, holding-text, holding-elements, []ᵉ, _∷ᵉ_}
-use Rattle.paper.specs.Rows.{Place, one, opt, plus, either, further, Holds, text, elements, Row, row-of, head-of, Arranged, end, exactly-one, there, not-there, at-least-one, one-further, no-further, chosen, Conforms, Conform}
+use Rattle.paper.specs.Rows.{Place, one, further, Holds, text, elements, Row, row-of, head-of, Arranged, end, exactly-one, there, not-there, at-least-one, one-further, no-further, chosen, Conforms, Conform}
 use Rattle.paper.specs.Values.{among}
-use Rattle.paper.specs.Payments.{listed, children, named, all-of, child, follow, text-of}
+use Rattle.paper.specs.Payments.{listed, children, named, all-of, child, text-of}
 use Rattle.paper.specs.Refusals.{rows-at}
 use Rattle.paper.specs.Accepted.{All, all-none, all-more}
-use Rattle.paper.proofs.Laws.{false-not-true, some-not-none, same-says, all-member, all-map}
+use Rattle.paper.proofs.Laws.{some-not-none, same-says, all-member, all-map, among-says}
 use Rattle.acceptance.proofs.Arranged.{rows-of, Apart, apart-none, apart-more}
 use Rattle.acceptance.proofs.Rows.{RowsApart}
 
@@ -37,15 +35,6 @@ arranged-in (chosen {choice = c} m a) = all-more (Memᴰ·append-left _ m) (deep
 -- a row is one of a group's rows, as a test
 unfoldable pub takes : Row → ℕ → Bool
 takes r k = elim (r .holds) [ text longest ↦ false | elements places ↦ among k (rows-of places) ]
-
-among-says : (n : ℕ) (ks : List ℕ) → among n ks ≡ true → List·Memᴰ n ks
-unfolding among
-among-says n [] e = false-not-true e
-among-says n (k ∷ ks) e = go (eqb n k) refl e (λ f. among-says n ks f)
-  where
-    go : (t : Bool) → eqb n k ≡ t → (t || among n ks) ≡ true → (among n ks ≡ true → List·Memᴰ n ks) → List·Memᴰ n (k ∷ ks)
-    go true p q below = List·Memᴰ·head (eqb-true n k p)
-    go false p q below = List·Memᴰ·tail (below q)
 
 module _ (profile : List Row) (Right : (parent : ℕ) → Row → Head → List ℕ → Type 0) where
   -- rows of one name are one row

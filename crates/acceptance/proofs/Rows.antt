@@ -1,18 +1,16 @@
 -- The walk of refusals 3 and 4 (and, with a judgement at the leaves, of 6 to 8) refuses nothing exactly where the element conforms to its row,
 -- over any table of rows in which no two rows of a group have one name.
 use Prim.Native.Nat.{ℕ, _+_}
-use native.Mathlib.Omega.{arith}
-use mathlib.Core.List.{List, [], _∷_, _++_}
+use mathlib.Core.List.{List, [], _∷_}
 use mathlib.Core.Bool.{Bool, true, false}
 use mathlib.Core.Option.{Option, none, some}
-use mathlib.Core.Path.{_≡_, refl, sym, _∙_, ap, subst}
-use mathlib.Core.Logic.{_↔_}
+use mathlib.Core.Path.{_≡_, refl, _∙_, ap, subst}
 use Rattle.paper.specs.Bytes.{if_then_else_, white, every, Every}
 use Rattle.paper.specs.Form.{Head, Element, Elements, holding-text, holding-elements, []ᵉ, _∷ᵉ_}
 use Rattle.paper.specs.Rows.{Place, Holds, text, elements, Row, row-of, head-of, Arranged, Conforms, Conform}
 use Rattle.paper.specs.Refusals.{Refusal, refuse, _or-else_, missing, ends, only-white, first-at, first-not, Sought, never, early, found, seek, walk, walk-all}
-use Rattle.paper.proofs.Laws.{false-not-true, some-not-none, every-says, every-tests}
-use Rattle.acceptance.proofs.Arranged.{nothing-missing, missing-nothing, seek-arranged, rows-of, Apart, Placed, arranged-seek}
+use Rattle.paper.proofs.Laws.{some-not-none, every-says, every-tests}
+use Rattle.acceptance.proofs.Arranged.{nothing-missing, missing-nothing, seek-arranged, rows-of, Apart, arranged-seek}
 
 -- the first of two that refuses: neither does
 pub neither : (a b : Option Refusal) → a or-else b ≡ none → (a ≡ none) × (b ≡ none)

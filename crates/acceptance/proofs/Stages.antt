@@ -1,19 +1,19 @@
 -- Each stage of the verdict refuses nothing exactly where the part of `Accepted` that it checks holds.
 use Prim.Native.Nat.{ℕ, suc, _+_, _≤_, _<_, _^_}
 use native.Mathlib.Omega.{arith}
-use mathlib.Core.List.{List, [], _∷_, _++_, map, List·Memᴰ, List·Memᴰ·head, List·Memᴰ·tail, List·Memᴰ·cases-cons, List·Memᴰ·not-nil, Memᴰ·cast}
+use mathlib.Core.List.{List, [], _∷_, map, List·Memᴰ, List·Memᴰ·head, List·Memᴰ·tail, List·Memᴰ·cases-cons, List·Memᴰ·not-nil, Memᴰ·cast}
 use mathlib.Core.Bool.{Bool, true, false, _&&_, _||_, not}
 use mathlib.Core.Option.{Option, none, some}
 use mathlib.Core.Path.{_≡_, refl, sym, _∙_, ap, subst}
 use mathlib.Core.Logic.{_↔_, _⊎_, inl, inr, ⊎-elim}
-use borrow.Author.Tests.{eqb-true, eqb-false, eq-eqb, ne-eqb, ltb-true, ltb-false, lt-ltb, leb-true, le-leb, not-true, not-false}
+use borrow.Author.Tests.{eqb-true, eqb-false, eq-eqb, ne-eqb, ltb-true, lt-ltb, leb-true, le-leb, not-true, not-false}
 use lib.ListN.{length, length-append, length-map}
 use lib.Dec.{eqb, leb, ltb}
-use Rattle.paper.specs.Bytes.{if_then_else_, is, value-character, every, Every, same}
+use Rattle.paper.specs.Bytes.{if_then_else_, is, value-character, every, same}
 use Rattle.paper.specs.Form.{Head, Element}
 use Rattle.paper.specs.Rows.{Row, row-of, head-of, Conforms}
-use Rattle.paper.specs.Values.{lies-from, allowed, number, cents}
-use Rattle.paper.specs.Payments.{Payment, text-of, child, all-of, blocks, of-header, payments, payments-from, payments-of, in-payment, in-block, sum-of, total}
+use Rattle.paper.specs.Values.{lies-from, allowed, number}
+use Rattle.paper.specs.Payments.{Payment, text-of, child, all-of, blocks, of-header, payments, payments-from, payments-of, in-payment, in-block, total}
 use Rattle.paper.specs.Refusals.{Refusal, refuse, _or-else_, longest-of, leaf-refusal, no-judgement, among-texts, unless, at-of, sixty-fifth, too-many, in-both, in-neither, usage, repeated, block-counts, first-not, rows-refusal, values-refusal, limits-refusal, usage-refusal, ids-refusal, total-refusal, counts-refusal, tree-refusal, walk}
 use Rattle.paper.specs.Accepted.{All, all-none, all-more, Distinct, distinct-none, distinct-more, AnyText, RightText, There, Says, NotBoth, Used, ids, BlockCounts, AcceptedTree}
 use Rattle.paper.proofs.Laws.{false-not-true, some-not-none, both, both-left, both-right, every-says, every-tests, same-says, same-tests, all-member, all-map, all-from}

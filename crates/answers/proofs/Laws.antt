@@ -1,6 +1,6 @@
 -- The numbers of an answer, once its case is known.
 use Prim.Native.Nat.{ℕ}
-use mathlib.Core.Path.{_≡_, refl, sym, ap, _∙_}
+use mathlib.Core.Path.{_≡_, refl}
 use Rattle.paper.specs.Refusals.{returned}
 use Rattle.paper.specs.Regrouping.{Returned, message-refused}
 use Rattle.paper.specs.Regrouping as moves

@@ -1,5 +1,4 @@
 -- The paper's numbers, as the code has them.
-use Prim.Native.Nat.{ℕ}
 use mathlib.Core.Path.{_≡_}
 use Rattle.paper.specs.Refusals.{Refusal as PaperRefusal, Returned}
 use Rattle.paper.specs.Regrouping.{Returned as RegroupingReturned}

@@ -7,7 +7,7 @@ use lib.Dec.{eqb, leb}
 use borrow.Author.Tests.{eq-eqb, ne-eqb, eqb-true, eqb-false, le-leb, leb-true}
 use Rattle.paper.specs.Bytes.{if_then_else_}
 use Rattle.paper.specs.Values.{among, lies-from, days-in, true-day}
-use Rattle.texts.proofs.Laws.{both-left, both-right}
+use Rattle.paper.proofs.Laws.{both-left, both-right}
 
 -- Leap years are 2000 and every fourth year after it.
 pub Leap : ℕ → Type 0

@@ -8,8 +8,8 @@ use lib.ListN.{List·getD-eq-default}
 use Rattle.paper.specs.Bytes.{bytes}
 use Rattle.paper.specs.Form.{Element}
 use Rattle.paper.specs.Rows.{rows, row-of, leaf, group, group-under}
-use Rattle.paper.specs.Payments.{Payment, in-payment, in-block, inherited}
-use Rattle.paper.specs.Fields.{either-of, field-elements, field-element}
+use Rattle.paper.specs.Payments.{Payment, in-payment, in-block, inherited, either-of}
+use Rattle.paper.specs.Fields.{field-elements, field-element}
 use Rattle.tree.specs.Laid.{Laid}
 use Rattle.routes.specs.Finds.{Finds, found-nothing, along, names-of, Leads, LeadsEither}
 use Rattle.fields.specs.Fields.{FieldAt}

@@ -5,7 +5,7 @@ ghost use mathlib.Core.Option.{some};
 ghost use Prim.Native.Nat.{ℕ, _<_, _≤_};
 ghost use Rattle.paper.specs.Bytes.{bytes};
 ghost use Rattle.paper.specs.Form.{Element};
-ghost use Rattle.paper.specs.Fields.{either-of};
+ghost use Rattle.paper.specs.Payments.{either-of};
 ghost use Rattle.tree.specs.Laid.{Laid};
 ghost use Rattle.fields.specs.Fields.{FieldAt};
 ghost use Rattle.routes.specs.Finds.{Finds, along};

@@ -4,7 +4,6 @@
 use form::Form;
 use libc::STDOUT_FILENO;
 ghost use Prim.Native.Nat.{_≤_};
-ghost use lib.ListN.{length};
 
 // 1 if a text is refused because it ends too early, otherwise 0.
 fn ends_early(s: &[u8]) -> usize

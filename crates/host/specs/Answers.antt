@@ -3,7 +3,6 @@
 use Prim.Native.Nat.{ℕ}
 use mathlib.Core.List.{List}
 use mathlib.Core.Path.{_≡_}
-use lib.ListN.{length}
 use Rattle.paper.specs.Rows.{rows}
 use Rattle.paper.specs.Refusals.{verdict, outcome, returned}
 use Rattle.paper.specs.Host.{numbers-held, bytes-after}

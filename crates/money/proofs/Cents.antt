@@ -9,7 +9,7 @@ use lib.ListN.{length, getD, take, drop, length-take}
 use lib.Seq.{take-all}
 use lib.Dec.{eqb}
 use borrow.Author.Tests.{eq-eqb, ne-eqb}
-use Rattle.paper.specs.Bytes.{is, same, bytes, if_then_else_}
+use Rattle.paper.specs.Bytes.{if_then_else_, is, same, bytes}
 use Rattle.paper.specs.Values.{number-after, number, digits, before-point, behind-point, money, cents}
 use Rattle.numbers.specs.Readings.{in-cents}
 use Rattle.numbers.specs.declared.Reading.the-variants.{Not, Number}

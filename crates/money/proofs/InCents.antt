@@ -10,7 +10,8 @@ use lib.Dec.{eqb, leb}
 use borrow.Author.Tests.{leb-true}
 use Rattle.paper.specs.Bytes.{bytes, from-to, digit, every, same}
 use Rattle.paper.specs.Values.{number-after, number, digits, before-point, behind-point, money, cents}
-use Rattle.texts.proofs.Laws.{both-left, both-right, same-is, pairwise-same-length}
+use Rattle.paper.proofs.Laws.{both-left, both-right}
+use Rattle.texts.proofs.Laws.{same-is, pairwise-same-length}
 use Rattle.money.proofs.Cents.{no-point, in-cents-number}
 use Rattle.numbers.proofs.Laws.{digits-most, digits-digits}
 use Rattle.numbers.specs.Readings.{in-cents}

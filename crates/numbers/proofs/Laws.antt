@@ -13,7 +13,7 @@ use borrow.Author.Tests.{leb-true}
 use Rattle.paper.specs.Bytes.{digit, every}
 use Rattle.paper.specs.Values.{number-after, number, lies-from, digits, part}
 use Rattle.numbers.specs.Readings.{Spells}
-use Rattle.texts.proofs.Laws.{both-left, both-right}
+use Rattle.paper.proofs.Laws.{both-left, both-right}
 
 -- a digit more at the end
 number-snoc : (k : ℕ) (xs : List ℕ) (b : ℕ) → number-after k (xs ++ b ∷ []) ≡ number-after k xs * 10 + (b - 48)

@@ -1,16 +1,16 @@
 -- On lists alone: one list can be paired with another, each element of the first used once, exactly where each value stands equally often in both.
-use Prim.Native.Nat.{ℕ, zero, suc, _+_, _-_, _≤_, _<_}
+use Prim.Native.Nat.{ℕ, zero, suc, _-_, _≤_, _<_}
 use native.Mathlib.Omega.{arith}
 use mathlib.Core.List.{List, [], _∷_, map, List·Memᴰ, List·Memᴰ·head, List·Memᴰ·tail, List·Memᴰ·cases-cons, List·Memᴰ·not-nil}
 use mathlib.Core.Bool.{Bool, true, false}
 use mathlib.Core.Path.{_≡_, refl, sym, _∙_, ap, subst}
-use mathlib.Core.Logic.{_↔_, ⊎-elim}
+use mathlib.Core.Logic.{⊎-elim}
 use lib.ListN.{length, getD, length-map}
-use lib.Dec.{ltb, eqb}
+use lib.Dec.{ltb}
 use borrow.Author.Tests.{ltb-true, ltb-false, lt-ltb, le-ltb}
 use Rattle.paper.specs.Bytes.{if_then_else_}
 use Rattle.paper.specs.Accepted.{All, all-none, all-more, Distinct, distinct-none, distinct-more}
-use Rattle.paper.proofs.Laws.{false-not-true, all-member, all-map, all-from}
+use Rattle.paper.proofs.Laws.{all-member, all-map, all-from}
 
 module _ {A : Type 0} (same : A → A → Bool) (says : (a b : A) → same a b ≡ true → a ≡ b) (tests : (a : A) → same a a ≡ true) where
   unfoldable pub count : A → List A → ℕ

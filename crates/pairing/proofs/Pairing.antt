@@ -1,20 +1,20 @@
 -- The walk over a list of ordinals refuses nothing exactly where the list pairs the payments of the first message with those of the second.
-use Prim.Native.Nat.{ℕ, zero, suc, _+_, _<_}
+use Prim.Native.Nat.{ℕ, zero, suc, _<_}
 use native.Mathlib.Omega.{arith}
-use mathlib.Core.List.{List, [], _∷_, List·Memᴰ, List·Memᴰ·head, List·Memᴰ·tail, List·Memᴰ·cases-cons, List·Memᴰ·not-nil, Memᴰ·cast}
-use mathlib.Core.Bool.{Bool, true, false, _&&_, _||_, not}
+use mathlib.Core.List.{List, [], _∷_, List·Memᴰ, List·Memᴰ·head, List·Memᴰ·tail, List·Memᴰ·cases-cons, Memᴰ·cast}
+use mathlib.Core.Bool.{Bool, true, false, _||_, not}
 use mathlib.Core.Option.{Option, none, some}
-use mathlib.Core.Path.{_≡_, refl, sym, _∙_, ap, subst}
+use mathlib.Core.Path.{_≡_, refl, sym, _∙_, ap}
 use mathlib.Core.Logic.{⊎-elim}
 use lib.ListN.{length, getD}
 use lib.Dec.{ltb, eqb}
-use borrow.Author.Tests.{ltb-true, lt-ltb, eqb-true, eq-eqb, not-false}
+use borrow.Author.Tests.{ltb-true, lt-ltb, eq-eqb}
 use Rattle.paper.specs.Bytes.{if_then_else_, same}
 use Rattle.paper.specs.Values.{among}
 use Rattle.paper.specs.Accepted.{All, all-none, all-more, Distinct, distinct-none, distinct-more}
 use Rattle.paper.specs.Fields.{Value, same-value, differ-from}
-use Rattle.paper.specs.Regrouping.{Answer, answered, message-refused, same-payment, pairing}
-use Rattle.paper.proofs.Laws.{false-not-true, some-not-none, both, both-left, both-right, same-says, same-tests, all-member, all-map, all-from}
+use Rattle.paper.specs.Regrouping.{Answer, answered, same-payment, pairing}
+use Rattle.paper.proofs.Laws.{false-not-true, some-not-none, both, both-left, both-right, same-says, same-tests, all-member, all-map, all-from, among-says}
 use Rattle.pairing.proofs.Counting.{Names, names-none, names-more}
 
 -- equality of values and of payments, by their tests
@@ -67,16 +67,6 @@ equal-no-difference : (n : ℕ) (v : List Value) → differ-from n v v ≡ none
 unfolding differ-from
 equal-no-difference n [] = refl
 equal-no-difference n (v ∷ vs) = rw (same-value-tests v) (equal-no-difference (suc n) vs)
-
--- a number is among numbers
-among-says : (n : ℕ) (ks : List ℕ) → among n ks ≡ true → List·Memᴰ n ks
-unfolding among
-among-says n [] e = false-not-true e
-among-says n (k ∷ ks) e = go (eqb n k) refl e (λ f. among-says n ks f)
-  where
-    go : (t : Bool) → eqb n k ≡ t → (t || among n ks) ≡ true → (among n ks ≡ true → List·Memᴰ n ks) → List·Memᴰ n (k ∷ ks)
-    go true p q below = List·Memᴰ·head (eqb-true n k p)
-    go false p q below = List·Memᴰ·tail (below q)
 
 among-member : {n : ℕ} {ks : List ℕ} → List·Memᴰ n ks → among n ks ≡ true
 unfolding among

@@ -1,13 +1,13 @@
 -- Demand 3 on the definitions: a regrouping is accepted exactly where `Regroups` holds; and for two accepted messages an acceptable list exists exactly
 -- where every payment, taken as its seventeen fields, stands equally often in both.
-use Prim.Native.Nat.{ℕ, zero, suc, _+_, _*_, _/_, _%_, _≤_, _<_}
+use Prim.Native.Nat.{ℕ, zero, suc, _+_, _/_, _%_, _≤_, _<_}
 use native.Mathlib.Omega.{arith}
 use mathlib.Core.List.{List, [], _∷_, _++_, map}
-use mathlib.Core.Bool.{Bool, true, false, _&&_, not}
+use mathlib.Core.Bool.{Bool, true, false, not}
 use mathlib.Core.Option.{Option, none, some}
 use mathlib.Core.Path.{_≡_, refl, sym, _∙_, ap, subst}
 use mathlib.Core.Logic.{_↔_}
-use lib.ListN.{length, getD, take, drop, length-map}
+use lib.ListN.{length, getD, take, length-map}
 use lib.Dec.{eqb}
 use borrow.Author.Tests.{eqb-true, eq-eqb}
 use Rattle.paper.specs.Bytes.{if_then_else_, bytes, same}
@@ -15,13 +15,13 @@ use Rattle.paper.specs.Form.{Element}
 use Rattle.paper.specs.Rows.{rows}
 use Rattle.paper.specs.Payments.{Payment, payments}
 use Rattle.paper.specs.Refusals.{Outcome, refused-as, accepted-with, outcome-alone}
-use Rattle.paper.specs.Accepted.{All, all-none, all-more, Distinct, Accepted, AcceptedTree}
+use Rattle.paper.specs.Accepted.{All, all-none, all-more, Accepted}
 use Rattle.paper.specs.Fields.{Value, values-of}
-use Rattle.paper.specs.Regrouping.{Answer, answered, message-refused, add-first, numbers-16, counted, ordinals-of, two-bytes, all-two-bytes, file-of, same-payment, often, pairing, of-payments, all-values, of-outcomes, regrouping, Regroups}
-use Rattle.paper.proofs.Laws.{false-not-true, some-not-none, both, all-map, all-from}
+use Rattle.paper.specs.Regrouping.{Answer, answered, add-first, numbers-16, counted, ordinals-of, two-bytes, all-two-bytes, file-of, same-payment, often, pairing, of-payments, all-values, of-outcomes, regrouping, Regroups}
+use Rattle.paper.proofs.Laws.{both, all-map, all-from}
 use Rattle.acceptance.proofs.Accepts.{accepted-from, outcome-of}
 use Rattle.pairing.proofs.Counting.{count, Names, names-none, names-more, Pairs, paired-counts, counts-paired}
-use Rattle.pairing.proofs.Pairing.{same-payment-says, same-payment-tests, Rest, pairing-rest, rest-pairing}
+use Rattle.pairing.proofs.Pairing.{same-payment-says, same-payment-tests, pairing-rest, rest-pairing}
 
 -- each payment has seventeen values
 all-seventeen : (ps : List Payment) → All (λ v. length v ≡ 17) (map (values-of rows) ps)

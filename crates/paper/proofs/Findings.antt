@@ -1,10 +1,10 @@
 -- The first of two stages that refuses, by what was found in each.
 use Prim.Native.Nat.{ℕ}
 use native.Mathlib.Omega.{arith}
-use mathlib.Core.Option.{Option, none, some}
-use mathlib.Core.Path.{_≡_, refl, sym, _∙_, ap}
+use mathlib.Core.Option.{Option}
+use mathlib.Core.Path.{_≡_}
 use Rattle.paper.specs.Refusals.{Refusal, _or-else_}
-use Rattle.paper.specs.Answers.{refusal-found, refusal-of}
+use Rattle.paper.specs.Answers.{refusal-found}
 use Rattle.paper.specs.declared.Fault.{Fault}
 use Rattle.paper.specs.declared.Finding.{Finding}
 use Rattle.paper.specs.declared.Finding.the-variants.{Nothing, Refused}

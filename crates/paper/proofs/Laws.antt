@@ -1,14 +1,15 @@
 -- Laws about the paper's definitions of texts and lists: what a test says, as a statement.
 use Prim.Native.Nat.{ℕ}
-use mathlib.Core.List.{List, [], _∷_, List·Memᴰ, List·Memᴰ·head, List·Memᴰ·tail, List·Memᴰ·cases-cons, List·Memᴰ·not-nil}
-use mathlib.Core.Bool.{Bool, true, false, _&&_}
-use mathlib.Core.Option.{Option, none, some}
+use mathlib.Core.List.{List, [], _∷_, _++_, List·Memᴰ, List·Memᴰ·head, List·Memᴰ·tail, List·Memᴰ·cases-cons, List·Memᴰ·not-nil}
+use mathlib.Core.Bool.{Bool, true, false, _&&_, _||_}
+use mathlib.Core.Option.{none, some}
 use mathlib.Core.Path.{_≡_, refl, sym, subst}
 use mathlib.Core.Logic.{⊎-elim}
 use native.Mathlib.Omega.{arith}
 use borrow.Author.Tests.{eqb-true, eq-eqb}
 use lib.Dec.{eqb}
 use Rattle.paper.specs.Bytes.{Every, none as every-none, more as every-more, every, same}
+use Rattle.paper.specs.Values.{among}
 use Rattle.paper.specs.Accepted.{All, all-none, all-more}
 
 -- two values that can't be equal
@@ -76,3 +77,18 @@ all-map f (all-more p h) = all-more (f _ p) (all-map f h)
 pub all-from : {A : Type 0} {P : A → Type 0} {l : List A} → ((a : A) → List·Memᴰ a l → P a) → All P l
 all-from {l = []} f = all-none
 all-from {l = a ∷ l} f = all-more (f a (List·Memᴰ·head refl)) (all-from (λ b m. f b (List·Memᴰ·tail m)))
+
+-- a number is among numbers
+pub among-says : (n : ℕ) (ks : List ℕ) → among n ks ≡ true → List·Memᴰ n ks
+unfolding among
+among-says n [] e = false-not-true e
+among-says n (k ∷ ks) e = go (eqb n k) refl e (λ f. among-says n ks f)
+  where
+    go : (t : Bool) → eqb n k ≡ t → (t || among n ks) ≡ true → (among n ks ≡ true → List·Memᴰ n ks) → List·Memᴰ n (k ∷ ks)
+    go true p q below = List·Memᴰ·head (eqb-true n k p)
+    go false p q below = List·Memᴰ·tail (below q)
+
+-- of two lists, one after the other
+pub all-joined : {A : Type 0} {P : A → Type 0} {l m : List A} → All P l → All P m → All P (l ++ m)
+all-joined all-none k = k
+all-joined (all-more p h) k = all-more p (all-joined h k)

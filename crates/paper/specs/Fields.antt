@@ -7,7 +7,7 @@ use lib.ListN.{getD}
 use Rattle.paper.specs.Bytes.{if_then_else_, bytes, same}
 use Rattle.paper.specs.Form.{Element}
 use Rattle.paper.specs.Rows.{Row}
-use Rattle.paper.specs.Payments.{Payment, text-of, payments, in-payment, in-block, inherited, amount-of}
+use Rattle.paper.specs.Payments.{Payment, text-of, payments, in-payment, in-block, inherited, amount-of, either-of}
 use Rattle.paper.specs.Refusals.{Outcome, refused-as, accepted-with}
 use Rattle.paper.specs.Table.{Part, part-of}
 
@@ -24,11 +24,6 @@ given (some t) = text-of t ∷ []
 unfoldable pub given-or : List ℕ → Option Element → Value
 given-or otherwise none = otherwise ∷ []
 given-or otherwise (some t) = text-of t ∷ []
-
--- the first of two that stands there
-unfoldable pub either-of : Option Element → Option Element → Option Element
-either-of (some t) other = some t
-either-of none other = other
 
 unfoldable pub remittance : (free issuer reference : Option Element) → Value
 remittance (some t) issuer reference = bytes "Ustrd" ∷ text-of t ∷ []

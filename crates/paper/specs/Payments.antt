@@ -2,9 +2,8 @@
 use Prim.Native.Nat.{ℕ, suc, _+_}
 use mathlib.Core.List.{List, [], _∷_, _++_, map}
 use mathlib.Core.Option.{Option, none, some}
-use mathlib.Core.Bool.{Bool, true, false}
 use Rattle.paper.specs.Bytes.{if_then_else_, same}
-use Rattle.paper.specs.Form.{Head, Element, Elements, holding-text, holding-elements, []ᵉ, _∷ᵉ_}
+use Rattle.paper.specs.Form.{Element, Elements, holding-text, holding-elements, []ᵉ, _∷ᵉ_}
 use Rattle.paper.specs.Rows.{Row, row-of, head-of}
 use Rattle.paper.specs.Values.{cents}
 
@@ -25,6 +24,11 @@ pub record Payment : Type 0 where
   pub own : Element
   pub block : Element
   pub block-number : ℕ
+
+-- the first of two that stands there
+unfoldable pub either-of : Option Element → Option Element → Option Element
+either-of (some t) other = some t
+either-of none other = other
 
 module _ (profile : List Row) where
   -- of an element that is row `parent`, all children that are row k; and the first of them
@@ -69,7 +73,7 @@ module _ (profile : List Row) where
   in-block route p = follow 10 route (p .block)
 
   unfoldable pub inherited : List ℕ → Payment → Option Element
-  inherited route p = elim (in-payment route p) [ some t ↦ some t | none ↦ in-block route p ]
+  inherited route p = either-of (in-payment route p) (in-block route p)
 
   -- the instructed amount of a payment's element in cents, and the exact sum of several
   unfoldable pub amount-of : Element → ℕ

@@ -2,9 +2,9 @@
 use Prim.Native.Nat.{ℕ, suc, _+_, _^_}
 use mathlib.Core.List.{List, [], _∷_, _++_}
 use mathlib.Core.Option.{Option, none, some}
-use mathlib.Core.Bool.{Bool, true, false, _&&_, _||_, not}
+use mathlib.Core.Bool.{Bool, true, false, _||_, not}
 use lib.ListN.{length}
-use lib.Dec.{eqb, leb, ltb}
+use lib.Dec.{eqb, ltb}
 use Rattle.paper.specs.Bytes.{if_then_else_, is, white, value-character, every, same}
 use Rattle.paper.specs.Form.{Head, Element, Elements, holding-text, holding-elements, []ᵉ, _∷ᵉ_}
 use Rattle.paper.specs.Reading.{Reading, root-is, stops-at, read}

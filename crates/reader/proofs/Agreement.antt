@@ -1,12 +1,11 @@
 -- The contracts of the reader determine their answers; and demands 1 and 2 as the contract of `verdict` has them.
-use Prim.Native.Nat.{ℕ, _+_, _≤_, _<_}
+use Prim.Native.Nat.{ℕ, _≤_}
 use native.Mathlib.Omega.{arith}
 use mathlib.Core.List.{List}
 use mathlib.Core.Path.{_≡_, refl, sym, ap, _∙_}
 use mathlib.Core.Logic.{_↔_}
-use lib.ListN.{length, take, drop}
+use lib.ListN.{length}
 use denote.Ref.{RefT, now}
-use Rattle.paper.specs.Form.{Element}
 use Rattle.paper.specs.Rows.{rows}
 use Rattle.paper.specs.Refusals.{Outcome, refused-as, accepted-with, Answer, accepted, refused, answer, outcome, verdict, least-table}
 use Rattle.paper.specs.Table.{Part, table-after}

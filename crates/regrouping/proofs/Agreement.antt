@@ -1,10 +1,10 @@
 -- The contract of `regroup` determines its answer; and demand 3 as that contract has it.
 use Prim.Native.Nat.{ℕ}
 use mathlib.Core.List.{List}
-use mathlib.Core.Path.{_≡_, refl, sym, ap, _∙_}
+use mathlib.Core.Path.{_≡_, sym, ap, _∙_}
 use mathlib.Core.Logic.{_↔_}
 use Rattle.paper.specs.Rows.{rows}
-use Rattle.paper.specs.Regrouping.{answered, regrouping, Regroups}
+use Rattle.paper.specs.Regrouping.{regrouping, Regroups}
 use Rattle.paper.specs.Answers.{regrouping-of}
 use Rattle.paper.specs.declared.Regrouping.{Regrouping}
 use Rattle.paper.specs.declared.Regrouping.the-variants as the

@@ -1,24 +1,22 @@
 -- The answer to a regrouping, by what was decided of each message and found in the list.
-use Prim.Native.Nat.{ℕ, _≤_}
+use Prim.Native.Nat.{ℕ}
 use native.Mathlib.Omega.{arith}
 use mathlib.Core.List.{List, []}
-use mathlib.Core.Bool.{Bool, true, false, not}
+use mathlib.Core.Bool.{true, not}
 use mathlib.Core.Option.{Option, none, some}
 use mathlib.Core.Path.{_≡_, refl, sym, _∙_, ap, subst}
 use borrow.Author.Tests.{eq-eqb, ne-eqb}
 use lib.ListN.{length, length-map}
 use lib.Dec.{eqb}
-use Rattle.paper.specs.Bytes.{if_then_else_}
 use Rattle.paper.specs.Form.{Element}
 use Rattle.paper.specs.Rows.{rows}
 use Rattle.paper.specs.Payments.{Payment, payments, in-payment}
 use Rattle.paper.specs.Refusals.{refused-as, accepted-with, outcome-alone}
-use Rattle.paper.specs.Fields.{Value, values-of, field-part}
+use Rattle.paper.specs.Fields.{values-of, field-part}
 use Rattle.paper.specs.Table.{Part, part-of}
 use Rattle.parts.specs.Parts.{HandsBack}
 use denote.Ref.{RefT}
-use Rattle.paper.specs.Accepted.{All}
-use Rattle.paper.specs.Regrouping.{Answer, answered, message-refused, ordinals-of, pairing, of-payments, all-values, of-outcomes, regrouping, differing-part}
+use Rattle.paper.specs.Regrouping.{ordinals-of, pairing, of-payments, all-values, of-outcomes, regrouping, differing-part}
 use Rattle.paper.specs.Answers.{refusal-of, regrouping-of}
 use Rattle.paper.specs.declared.Fault.{Fault}
 use Rattle.paper.specs.declared.Verdict.{Verdict}

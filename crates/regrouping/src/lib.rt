@@ -4,7 +4,6 @@ use moves::Paired;
 use paper::Regrouping;
 use paper::Verdict;
 ghost use mathlib.Core.Path.{_≡_};
-ghost use Prim.Native.Nat.{ℕ};
 ghost use Rattle.paper.specs.Form.{Element};
 ghost use Rattle.paper.specs.Rows.{rows};
 ghost use Rattle.paper.specs.Refusals.{accepted-with, outcome-alone};

@@ -8,9 +8,8 @@ use native.Mathlib.Omega.{arith}
 use Rattle.paper.specs.Bytes.{same}
 use Rattle.paper.specs.Form.{Head, Element, Elements, []ᵉ, _∷ᵉ_}
 use Rattle.paper.specs.Rows.{Row, row-of, head-of}
-use Rattle.paper.specs.Payments.{Payment, listed, children, named, all-of, follow, in-payment, in-block, inherited}
+use Rattle.paper.specs.Payments.{Payment, listed, children, named, all-of, follow, in-payment, in-block, inherited, either-of}
 use Rattle.paper.specs.Payments.{child as child-row}
-use Rattle.paper.specs.Fields.{either-of}
 use Rattle.tree.specs.Laid.{Entry, Laid, LaidAll, laid-text, laid-elements, laid-none, laid-more}
 use Rattle.tree.proofs.Laws.{Cell, next-cell, entry-of}
 use Rattle.routes.specs.Finds.{Finds, found-at, found-nothing, SamePlace, same-at, same-nothing, with-name, first-of, child-named, child-under, along, names-of, Next, no-more, one-more}
@@ -55,13 +54,8 @@ module _ (table : List Row) where
       go (some u) f = f u
 
   pub inherited-is : (route : List ℕ) (p : Payment) → inherited table route p ≡ either-of (in-payment table route p) (in-block table route p)
-  unfolding inherited either-of
-  inherited-is route p = go (in-payment table route p)
-    where
-      go : (o : Option Element) →
-          _≡_ {A = Option Element} (elim o [ some t ↦ some t | none ↦ in-block table route p ]) (either-of o (in-block table route p))
-      go none = refl
-      go (some u) = refl
+  unfolding inherited
+  inherited-is route p = refl
 
 -- one element of several, by its name
 pub with-takes : (name : List ℕ) (t : Element) (ts : Elements) → same (head-of t .name) name ≡ true

@@ -6,8 +6,7 @@ use mathlib.Core.Path.{_≡_}
 use Rattle.paper.specs.Bytes.{if_then_else_, same}
 use Rattle.paper.specs.Form.{Element, Elements}
 use Rattle.paper.specs.Rows.{Row, row-of, head-of}
-use Rattle.paper.specs.Payments.{children, listed}
-use Rattle.paper.specs.Fields.{either-of}
+use Rattle.paper.specs.Payments.{children, listed, either-of}
 use Rattle.tree.specs.Laid.{cell-of, Laid, LaidAll}
 use Rattle.routes.specs.declared.Found.{Found}
 use Rattle.routes.specs.declared.Found.the-variants.{At, Nothing}

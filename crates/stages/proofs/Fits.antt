@@ -1,19 +1,18 @@
 -- The numbers of each payment fit the table where the walk of 6 to 8 refuses nothing and there are at most sixteen blocks.
 use Prim.Native.Nat.{ℕ, suc, _+_, _≤_, _<_}
 use native.Mathlib.Omega.{arith}
-use mathlib.Core.List.{List, [], _∷_, _++_, map}
-use mathlib.Core.Bool.{true}
+use mathlib.Core.List.{List, [], _∷_, map}
 use mathlib.Core.Option.{Option, none, some}
-use mathlib.Core.Path.{_≡_, refl, sym, _∙_, ap}
+use mathlib.Core.Path.{_≡_, refl, ap}
 use lib.ListN.{length}
 use Rattle.paper.specs.Form.{Element}
 use Rattle.paper.specs.Rows.{rows}
-use Rattle.paper.specs.Values.{money, cents}
+use Rattle.paper.specs.Values.{cents}
 use Rattle.paper.specs.Payments.{Payment, text-of, all-of, follow, blocks, payments, payments-of, payments-from, amount-of}
 use Rattle.paper.specs.Refusals.{values-refusal}
 use Rattle.paper.specs.Accepted.{All, all-none, all-more}
-use Rattle.paper.proofs.Laws.{all-map}
-use Rattle.leaves.specs.Readable.{ReadPayment, Readable}
+use Rattle.paper.proofs.Laws.{all-joined}
+use Rattle.leaves.specs.Readable.{ReadPayment}
 use Rattle.table.specs.Rows.{Fitting}
 use Rattle.stages.proofs.Readable.{readable, small-amounts}
 
@@ -22,14 +21,10 @@ numbered-map : (n m : ℕ) (b : Element) (ts : List Element) → n < m → All (
 numbered-map n m b [] h = all-none
 numbered-map n m b (t ∷ ts) h = all-more h (numbered-map n m b ts h)
 
-joined : {P : Payment → Type 0} {l m : List Payment} → All P l → All P m → All P (l ++ m)
-joined all-none k = k
-joined (all-more p h) k = all-more p (joined h k)
-
 numbered-from : (n m : ℕ) (bs : List Element) → n + length bs ≤ m → All (λ (p : Payment). p .block-number < m) (payments-from rows n bs)
 unfolding payments-from payments-of
 numbered-from n m [] h = all-none
-numbered-from n m (b ∷ bs) h = joined (numbered-map n m b (all-of rows 10 37 b) (omega arith)) (numbered-from (suc n) m bs (omega arith))
+numbered-from n m (b ∷ bs) h = all-joined (numbered-map n m b (all-of rows 10 37 b) (omega arith)) (numbered-from (suc n) m bs (omega arith))
 
 small-amount : (p : Payment) → ((u : Element) → follow rows 37 (41 ∷ 42 ∷ []) (p .own) ≡ some u → cents (text-of u) ≤ 99999999999) → amount-of rows (p .own) ≤ 99999999999
 unfolding amount-of

@@ -1,5 +1,5 @@
 -- The stages of the verdict, one after the other.
-use Prim.Native.Nat.{ℕ, _≤_}
+use Prim.Native.Nat.{ℕ, _≤_, _<_}
 use native.Mathlib.Omega.{arith}
 use mathlib.Core.List.{List}
 use mathlib.Core.Option.{Option, none, some}
@@ -8,10 +8,9 @@ use borrow.Author.Tests.{le-ltb}
 use lib.ListN.{length}
 use Rattle.paper.specs.Form.{Element}
 use Rattle.paper.specs.Reading.{read, root-is}
-use Rattle.paper.specs.Rows.{rows, row-of}
+use Rattle.paper.specs.Rows.{rows}
 use Rattle.paper.specs.Payments.{blocks, payments, total}
-use Rattle.paper.specs.Refusals.{Refusal, refuse, _or-else_, size-refusal, largest-message, refused-as, accepted-with, unless-refused, of-reading, outcome-alone, tree-refusal, rows-refusal, limits-refusal, values-refusal, usage-refusal, ids-refusal, total-refusal, counts-refusal, no-judgement, leaf-refusal}
-use Rattle.paper.specs.Accepted.{AnyText}
+use Rattle.paper.specs.Refusals.{Refusal, refuse, _or-else_, size-refusal, largest-message, refused-as, accepted-with, unless-refused, of-reading, outcome-alone, tree-refusal, rows-refusal, limits-refusal, values-refusal, usage-refusal, ids-refusal, total-refusal, counts-refusal}
 use Rattle.paper.specs.Answers.{refusal-of, numbered, refusal-found}
 use Rattle.paper.specs.declared.Fault.{Fault}
 use Rattle.paper.specs.declared.Fault.the-variants.{TooMany, TotalTooLarge}
@@ -19,8 +18,6 @@ use Rattle.paper.specs.declared.Finding.{Finding}
 use Rattle.paper.specs.declared.Finding.the-variants as finding
 use Rattle.paper.specs.declared.Verdict.{Verdict}
 use Rattle.paper.specs.declared.Verdict.the-variants.{Accepted, Refused}
-use Rattle.acceptance.proofs.Rows.{walk-conforms, conforms-walk}
-use Rattle.acceptance.proofs.Apart.{rows-apart}
 use Rattle.tree.specs.Laid.{Laid}
 use Rattle.order.specs.Ordered.{Ordered, Few, Limited, is-within, is-excess}
 use Rattle.order.specs.declared.Limits.{Limits}
@@ -31,6 +28,7 @@ use Rattle.totals.specs.declared.Total.the-variants as totalled
 use Rattle.shape.specs.Shaped.{Shaped, not-shaped, is-shaped}
 use Rattle.stages.specs.Decided.{Passes, refuses, accepts, Decided, decided-refused, decided-accepted}
 use Rattle.stages.proofs.Readable.{readable}
+use Rattle.stages.proofs.OneWalk.{rows-first}
 use Rattle.stages.proofs.Fits.{fits}
 
 of-the-form : (s : List ℕ) {root : Element} → length s ≤ 32768 → read s ≡ root-is root → outcome-alone rows s ≡ unless-refused (tree-refusal rows root) (accepted-with root)
@@ -99,17 +97,16 @@ the-total h e = total-fits h e .1
 pub no-values-refusal : (root : Element) {f : Finding} → refusal-found f ≡ values-refusal rows root → f ≡ finding.Nothing → values-refusal rows root ≡ none
 no-values-refusal root e d = found-none e d
 
--- 3 and 4: where the walk for 6 to 8 finds nothing, that for 3 and 4 does not either
-pub rows-too : (root : Element) → values-refusal rows root ≡ none → rows-refusal rows root ≡ none
-unfolding values-refusal rows-refusal no-judgement
-rows-too root e =
-    conforms-walk rows no-judgement AnyText (λ parent r h w c. refl) rows-apart root 0 (row-of rows 0 1) (rows-apart 0 1)
-    (walk-conforms rows leaf-refusal AnyText (λ parent r h w n. record {}) root 0 (row-of rows 0 1) e)
-
+-- 3 and 4
 pub rows-refused : {s tree order : List ℕ} {root : Element} {f : Finding} → refusal-found f ≡ rows-refusal rows root → {x : Fault} → f ≡ finding.Refused x
     → Passes s tree order root (tree-refusal rows root) (Refused x)
 unfolding tree-refusal
 rows-refused is d = first-refuses _ _ is d
+
+pub rows-refused-first : {s tree order : List ℕ} {root : Element} {f : Finding} → refusal-found f ≡ values-refusal rows root → {x : Fault} → f ≡ finding.Refused x
+    → refusal-of x .number < 5 → Passes s tree order root (tree-refusal rows root) (Refused x)
+unfolding tree-refusal _or-else_
+rows-refused-first {root = root} is {x} d l = refuses {f = x} (rw (rows-first root (found-refused is d) l))
 
 pub no-rows-refusal : (root : Element) {f : Finding} → refusal-found f ≡ rows-refusal rows root → f ≡ finding.Nothing → rows-refusal rows root ≡ none
 no-rows-refusal root e d = found-none e d

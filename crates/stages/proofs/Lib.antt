@@ -1,4 +1,5 @@
 -- Laws that belong to no one function.
 pub mod Readable
 pub mod Fits
+pub mod OneWalk
 pub mod InTurn

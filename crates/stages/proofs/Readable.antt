@@ -1,25 +1,25 @@
 -- Where the walk of 6 to 8 refuses nothing, counts, sums and amounts can be read as numbers.
 use Prim.Native.Nat.{ℕ, _≤_}
 use mathlib.Core.List.{List, [], _∷_}
-use mathlib.Core.Bool.{Bool, true, false, _&&_}
-use mathlib.Core.Option.{Option, none, some}
+use mathlib.Core.Bool.{true}
+use mathlib.Core.Option.{none, some}
 use mathlib.Core.Path.{_≡_, refl, sym, _∙_, ap}
 use borrow.Author.Tests.{le-leb, leb-true}
 use native.Mathlib.Omega.{arith}
 use lib.ListN.{length}
-use lib.Dec.{leb, eqb}
-use Rattle.paper.specs.Bytes.{if_then_else_, bytes, every, digit, same}
+use lib.Dec.{leb}
+use Rattle.paper.specs.Bytes.{bytes, every, digit, same}
 use Rattle.paper.specs.Form.{Head, Element}
-use Rattle.paper.specs.Rows.{Row, rows, row-of, leaf, group, group-under, text, head-of}
+use Rattle.paper.specs.Rows.{rows, row-of, leaf, group, group-under, text}
 use Rattle.paper.specs.Values.{among, lies-from, digits, count, money, amount, cents, allowed}
-use Rattle.paper.specs.Payments.{Payment, text-of, child, follow, of-header, blocks, payments}
+use Rattle.paper.specs.Payments.{Payment, text-of, follow, of-header, blocks, payments}
 use Rattle.paper.specs.Refusals.{longest-of, values-refusal, rows-at}
-use Rattle.paper.specs.Accepted.{All, all-none, all-more, RightText}
+use Rattle.paper.specs.Accepted.{All, RightText}
 use Rattle.paper.proofs.Laws.{both, both-left, both-right, all-map}
 use Rattle.acceptance.proofs.Arranged.{rows-of}
 use Rattle.acceptance.proofs.Routes.{takes}
 use Rattle.acceptance.proofs.RightValues.{RightAs, header-right, blocks-right, payments-right, block-leaf-right, amount-right}
-use Rattle.leaves.specs.Readable.{ReadBlock, ReadPayment, Readable}
+use Rattle.leaves.specs.Readable.{ReadBlock, Readable}
 
 -- a right count of a row that takes at most fifteen bytes; right money; a right amount
 count-read : (parent k : ℕ) {h : Head} {w : List ℕ} → RightText parent (row-of rows parent k) h w → longest-of (row-of rows parent k .holds) ≡ 15

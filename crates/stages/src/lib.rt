@@ -5,14 +5,15 @@ use paper::Finding;
 use paper::Verdict;
 use totals::Total;
 ghost use mathlib.Core.Path.{_≡_};
+ghost use mathlib.Core.Bool.{true};
 ghost use mathlib.Core.Option.{none};
-ghost use Prim.Native.Nat.{ℕ, _≤_};
+ghost use Prim.Native.Nat.{ℕ, _≤_, _<_};
 ghost use lib.ListN.{length};
 ghost use Rattle.paper.specs.Form.{Element};
 ghost use Rattle.paper.specs.Rows.{rows};
 ghost use Rattle.paper.specs.Payments.{blocks as all-blocks, payments as all-payments};
 ghost use Rattle.paper.specs.Refusals.{tree-refusal, rows-refusal, values-refusal, usage-refusal, ids-refusal, total-refusal, counts-refusal, _or-else_};
-ghost use Rattle.paper.specs.Answers.{refusal-found};
+ghost use Rattle.paper.specs.Answers.{refusal-of, refusal-found};
 ghost use Rattle.tree.specs.Laid.{Laid};
 ghost use Rattle.order.specs.Ordered.{Ordered};
 ghost use Rattle.stages.specs.Decided.{Passes, Decided};
@@ -74,7 +75,16 @@ fn limited(s: &[u8], tree: &[u16], order: &mut [u16], values: Finding) -> Verdic
     }
 }
 
-// 3 and 4, and what follows. The walk for 6 to 8 finds those of 3 and 4 as well: only where it finds something, a walk of their own looks for them.
+// A fault that is one of 3 or 4.
+fn of_rows(fault: Fault) -> bool
+    ensures { λ r. ⌜ (r ≡ true → refusal-of fault .number < 5) ⌝ }
+{
+    let refusal = answers::refusal_of(fault);
+    refusal.number < 5
+}
+
+// 3 and 4, and what follows. The walk for 6 to 8 finds those of 3 and 4 as well. What it finds of 6 to 8 waits until another walk has found none of 3 and 4,
+// which come first wherever they stand.
 fn stages(s: &[u8], tree: &[u16], order: &mut [u16]) -> Verdict
     ensures { λ r. ⌜ ((root : Element) (next : ℕ) → Laid (now (s .entry)) (now (tree .entry)) root 0 next → 208 ≤ length (now (order .entry)) → Passes (now (s .entry)) (now (tree .entry)) (now (order .exit)) root (tree-refusal rows root) r) ⌝ }
 {
@@ -82,6 +92,9 @@ fn stages(s: &[u8], tree: &[u16], order: &mut [u16]) -> Verdict
     match values {
         Finding::Nothing => limited(s, tree, order, Finding::Nothing),
         Finding::Refused(fault) => {
+            if of_rows(fault) {
+                return Verdict::Refused(fault);
+            }
             let shape = rows::check(s, tree, false);
             if let Finding::Refused(first) = shape {
                 return Verdict::Refused(first);

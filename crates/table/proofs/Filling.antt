@@ -1,19 +1,18 @@
 -- The table is filled a payment at a time: the numbers of those before, and then what was there.
-use Prim.Native.Nat.{ℕ, suc, _+_, _*_, _/_, _%_, _≤_, _<_}
+use Prim.Native.Nat.{ℕ, _+_, _*_, _≤_, _<_}
 use native.Mathlib.Omega.{arith}
-use native.Mathlib.Nat.{mod-eq-of-lt}
 use mathlib.Core.List.{List, [], _∷_, _++_, append-assoc, append-nil}
-use mathlib.Core.Option.{Option, none, some}
+use mathlib.Core.Option.{some}
 use mathlib.Core.Path.{_≡_, refl, sym, ap, _∙_, subst}
 use lib.ListN.{length, getD, take, drop, length-append}
 use lib.Seq.{paste, take-at, drop-append-add, drop-drop, take-all}
 use Rattle.paper.specs.Form.{Element}
-use Rattle.paper.specs.Rows.{rows, head-of}
-use Rattle.paper.specs.Payments.{Payment, payments, amount-of}
-use Rattle.paper.specs.Table.{Part, part-of, two-numbers, numbers-of, all-numbers}
-use Rattle.paper.specs.Accepted.{All, all-none, all-more}
+use Rattle.paper.specs.Rows.{rows}
+use Rattle.paper.specs.Payments.{Payment, payments}
+use Rattle.paper.specs.Table.{two-numbers, numbers-of, all-numbers}
+use Rattle.paper.specs.Accepted.{All, all-more}
 use Rattle.tree.specs.Laid.{Laid}
-use Rattle.order.specs.Ordered.{PaymentAt, PaymentsAt, no-payments, more-payments, Ordered}
+use Rattle.order.specs.Ordered.{PaymentsAt, more-payments, Ordered}
 
 -- a row put behind the numbers so far
 pub one-row : (done row old : List ℕ) (n : ℕ) → length done ≡ n → length row ≡ 16 → paste (done ++ drop n old) n row 16 ≡ (done ++ row) ++ drop (n + 16) old

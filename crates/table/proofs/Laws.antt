@@ -1,18 +1,17 @@
 -- Spans and rows of the table.
-use Prim.Native.Nat.{ℕ, suc, _+_, _*_, _/_, _%_, _-_, _≤_, _<_}
+use Prim.Native.Nat.{ℕ, suc, _+_, _/_, _%_, _-_, _≤_, _<_}
 use native.Mathlib.Nat.{mod-eq-of-lt}
 use native.Mathlib.Omega.{arith}
 use native.Mathlib.Numerals.{add-one}
-use mathlib.Core.List.{List, [], _∷_, _++_}
+use mathlib.Core.List.{List, [], _∷_}
 use mathlib.Core.Option.{Option, none, some}
 use mathlib.Core.Path.{_≡_, refl, sym, ap, _∙_, subst}
-use lib.ListN.{length, getD, set, take, drop}
+use lib.ListN.{length, getD, set}
 use lib.Seq.{paste, paste-suc, length-paste}
 use Rattle.paper.specs.Form.{Element}
 use Rattle.paper.specs.Bytes.{bytes}
 use Rattle.paper.specs.Rows.{head-of, rows, row-of, leaf, group, group-under}
-use Rattle.paper.specs.Payments.{Payment, inherited, amount-of}
-use Rattle.paper.specs.Fields.{either-of}
+use Rattle.paper.specs.Payments.{Payment, inherited, amount-of, either-of}
 use Rattle.paper.specs.Table.{Part, part-of, two-numbers, numbers-of}
 use Rattle.tree.specs.Laid.{Laid}
 use Rattle.tree.proofs.Laws.{Cell, at-cell, start-cell, close-cell, entry-of}

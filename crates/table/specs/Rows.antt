@@ -1,13 +1,13 @@
 -- The sixteen numbers of a payment as the code has them.
-use Prim.Native.Nat.{ℕ, _+_, _/_, _%_, _≤_, _<_}
+use Prim.Native.Nat.{ℕ, _+_, _≤_, _<_}
 use mathlib.Core.List.{List, [], _∷_}
 use mathlib.Core.Bool.{true}
 use mathlib.Core.Path.{_≡_}
 use lib.ListN.{length}
-use mathlib.Core.Option.{Option, some}
+use mathlib.Core.Option.{some}
 use Rattle.paper.specs.Form.{Element}
 use Rattle.paper.specs.Rows.{rows}
-use Rattle.paper.specs.Values.{money, cents}
+use Rattle.paper.specs.Values.{money}
 use Rattle.paper.specs.Payments.{Payment, text-of, follow, amount-of, in-payment, in-block, inherited}
 use Rattle.paper.specs.Table.{Part, part-of}
 use Rattle.table.specs.declared.Span.{Span}

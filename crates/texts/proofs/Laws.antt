@@ -15,6 +15,7 @@ use borrow.Author.Tests.{eq-eqb, ne-eqb, eqb-true, eqb-false}
 use Rattle.paper.specs.Bytes.{if_then_else_, bytes, is, from-to, one-of, letter, digit, letter-or-digit, capital-or-digit, value-character, every, same}
 use Rattle.paper.specs.Values.{among, fits, shaped, two-slashes}
 use Rattle.paper.specs.Refusals.{first-not}
+use Rattle.paper.proofs.Laws.{both-right}
 use Rattle.texts.specs.Shapes.{fits-byte, pairwise}
 
 pub drop-at : (s : List ℕ) (i : ℕ) → i < length s → drop i s ≡ getD s i 0 ∷ drop (i + 1) s
@@ -26,15 +27,6 @@ drop-end s i h = drop-of-length-le s h
 -- the part of a text from a place to its end
 pub rest-is : (w : List ℕ) (k : ℕ) → take (length w - k) (drop k w) ≡ drop k w
 rest-is w k = take-all (length w - k) (drop k w) (omega (arith, length-drop k w))
-
--- what a joined test that holds says of its parts
-pub both-left : (a b : Bool) → (a && b) ≡ true → a ≡ true
-both-left true b e = refl
-both-left false b e = e
-
-pub both-right : (a b : Bool) → (a && b) ≡ true → b ≡ true
-both-right true b e = e
-both-right false b e = let z : _≡_ {A = ℕ} 0 1 = cc in absurd (omega arith)
 
 module _ (p : ℕ → Bool) (s : List ℕ) (i : ℕ) where
   pub every-goes : i < length s → p (getD s i 0) ≡ true → every p (drop i s) ≡ every p (drop (i + 1) s)

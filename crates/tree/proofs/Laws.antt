@@ -1,14 +1,14 @@
 -- What is read from an entry of the tree.
-use Prim.Native.Nat.{ℕ, _+_, _*_, _≤_, _<_}
+use Prim.Native.Nat.{ℕ, _+_, _≤_, _<_}
 use mathlib.Core.List.{List}
 use mathlib.Core.Bool.{Bool}
-use mathlib.Core.Path.{_≡_, refl, sym, ap, _∙_}
+use mathlib.Core.Path.{_≡_, ap, _∙_}
 use native.Mathlib.Omega.{arith}
-use lib.ListN.{length, getD, take, drop}
+use lib.ListN.{length}
 use Rattle.paper.specs.Bytes.{same}
-use Rattle.paper.specs.Form.{Head, Element, holding-text, holding-elements}
+use Rattle.paper.specs.Form.{Head, Element}
 use Rattle.paper.specs.Rows.{head-of}
-use Rattle.tree.specs.Laid.{cell-of, between, Written, Entry, Laid, laid-text, laid-elements}
+use Rattle.tree.specs.Laid.{cell-of, between, Entry, Laid, laid-text, laid-elements}
 
 -- a number of the entry, as `cell` answers it
 abbrev pub Cell : (tree : List ℕ) (i k r : ℕ) → Type 0

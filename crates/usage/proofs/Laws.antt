@@ -1,24 +1,20 @@
 -- What is found in a payment and in its block decides refusals 9 and 10.
 use Prim.Native.Nat.{ℕ}
-use native.Mathlib.Omega.{arith}
-use mathlib.Core.List.{List, [], _∷_}
-use mathlib.Core.Option.{Option, none, some}
-use mathlib.Core.Path.{_≡_, refl, sym, ap, _∙_}
-use Rattle.paper.specs.Form.{Element}
-use Rattle.paper.specs.Rows.{rows, row-of, head-of}
-use Rattle.paper.specs.Payments.{Payment, in-payment, in-block}
-use Rattle.paper.specs.Refusals.{Refusal, refuse, in-both, in-neither, _or-else_}
+use mathlib.Core.List.{List}
+use mathlib.Core.Option.{none, some}
+use mathlib.Core.Path.{_≡_, sym, ap, _∙_}
+use Rattle.paper.specs.Rows.{rows, row-of}
+use Rattle.paper.specs.Payments.{Payment}
+use Rattle.paper.specs.Refusals.{refuse, in-both, in-neither}
 use Rattle.paper.specs.Answers.{refusal-found, refusal-of, numbered}
-use Rattle.paper.specs.declared.Finding.{Finding}
 use Rattle.paper.specs.declared.Finding.the-variants as finding
-use Rattle.paper.specs.declared.Fault.{Fault}
 use Rattle.paper.specs.declared.Fault.the-variants.{InPaymentAndBlock, InNeither}
 use Rattle.tree.specs.Laid.{Laid}
 use Rattle.tree.proofs.Laws.{Cell, at-cell, entry-of}
 use Rattle.routes.specs.Finds.{Finds, child-named}
 use Rattle.routes.specs.declared.Found.{Found}
 use Rattle.routes.specs.declared.Found.the-variants.{At, Nothing}
-use Rattle.routes.proofs.WhatIsFound.{found-none, found-some, FoundAt, own-row, block-row}
+use Rattle.routes.proofs.WhatIsFound.{found-none, found-some, own-row, block-row}
 
 module _ (row : ℕ) {s tree name : List ℕ} (p : Payment) (own-name : name ≡ row-of rows 37 row .name) (block-name : name ≡ row-of rows 10 row .name) where
   pub not-own : {f : Found} → Finds s tree (child-named name (p .own)) f → f ≡ Nothing → refusal-found finding.Nothing ≡ in-both rows row p

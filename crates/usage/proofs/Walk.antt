@@ -13,9 +13,9 @@ use Rattle.paper.specs.Answers.{refusal-found}
 use Rattle.paper.specs.declared.Fault.{Fault}
 use Rattle.paper.specs.declared.Finding.{Finding}
 use Rattle.paper.specs.declared.Finding.the-variants as finding
-use Rattle.paper.proofs.Findings.{found-first, found-later}
+use Rattle.paper.proofs.Findings.{found-first}
 use Rattle.tree.specs.Laid.{Laid}
-use Rattle.order.specs.Ordered.{PaymentAt, PaymentsAt, no-payments, more-payments, Ordered}
+use Rattle.order.specs.Ordered.{PaymentsAt, more-payments, Ordered}
 use Rattle.usage.specs.Used.{refusal-in-payment}
 
 or-assoc : (a b c : Option Refusal) → (a or-else b) or-else c ≡ a or-else (b or-else c)

@@ -1,7 +1,7 @@
 // What a value may be: refusals 6, 7 and 8 for one leaf.
 ghost use mathlib.Core.Path.{_≡_};
 ghost use mathlib.Core.Bool.{_&&_};
-ghost use Rattle.paper.specs.Bytes.{bytes, same, if_then_else_};
+ghost use Rattle.paper.specs.Bytes.{if_then_else_, bytes, same};
 ghost use Rattle.paper.specs.Values.{allowed, amount};
 ghost use Rattle.values.specs.Judgements.{Judges};
 ghost use lib.Dec.{eqb};
