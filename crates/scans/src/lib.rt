@@ -35,9 +35,10 @@ pub fn name_end(s: &[u8], at: usize) -> usize
     if s.len() <= at {
         return at;
     }
+    let limit = at + 32;
     let mut i = at + 1;
     while i < s.len() {
-        if i - at == 32 {
+        if i == limit {
             return i;
         }
         if !classes::is_letter_or_digit(s[i]) {

@@ -12,22 +12,22 @@ use Rattle.scans.proofs.name_end.Statement.{statement}
 use Rattle.scans.proofs.name_end.Tie as tie
 
 abbrev Inv-loop : tie.InvT-loop
-Inv-loop s at i₀ i = Spelt s at i
+Inv-loop s at limit i₀ i = Spelt s at i
 
 abbrev μ-loop : tie.MeasureT-loop
-μ-loop s at i₀ i = length s - i
+μ-loop s at limit i₀ i = length s - i
 
 returns : tie.Need-returns Inv-loop μ-loop
 returns c = λ h. absurd (omega arith)
+
+add-limit : tie.Need-add-limit Inv-loop μ-loop
+add-limit c = search needs
 
 add-i : tie.Need-add-i Inv-loop μ-loop
 add-i c = search needs
 
 loop-holds : tie.Need-loop-holds Inv-loop μ-loop
 loop-holds c = spelt-start _ _ (search needs)
-
-sub-if2 : tie.Need-sub-if2 Inv-loop μ-loop
-sub-if2 c = search needs
 
 returns-2 : tie.Need-returns-2 Inv-loop μ-loop
 returns-2 c = λ _. record { spelt = c .before .before .loop .inv; other = λ _ _. omega arith }
@@ -61,9 +61,9 @@ name-end-spec =
     Inv-loop
     μ-loop
     returns
+    add-limit
     add-i
     loop-holds
-    sub-if2
     returns-2
     shared-slice-read-is-letter-or-digit
     is-letter-or-digit-requires
