@@ -185,7 +185,7 @@ static size_t stack_touched(contender *run, const struct call *call)
 {
     uint8_t *stack = mmap(NULL, STACK_BYTES, PROT_READ | PROT_WRITE, MAP_PRIVATE | MAP_ANONYMOUS, -1, 0);
     if (stack == MAP_FAILED)
-        return 0;
+        exit(2);
     memset(stack, PAINT, STACK_BYTES);
     pthread_attr_t attributes;
     pthread_t thread;
@@ -193,7 +193,7 @@ static size_t stack_touched(contender *run, const struct call *call)
     pthread_attr_init(&attributes);
     pthread_attr_setstack(&attributes, stack, STACK_BYTES);
     if (pthread_create(&thread, &attributes, perform, &task) != 0)
-        return 0;
+        exit(2);
     pthread_join(thread, NULL);
     size_t low = 0;
     while (low < STACK_BYTES && stack[low] == PAINT)
@@ -213,6 +213,8 @@ static const struct input *input(const char *folder, const char *name)
         exit(2);
     }
     input->length = fread(input->bytes, 1, sizeof input->bytes, file);
+    if (ferror(file))
+        exit(2);
     fclose(file);
     const char *slash = strrchr(name, '/');
     input->name = slash ? slash + 1 : name;

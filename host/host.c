@@ -10,8 +10,8 @@
 #include <inttypes.h>
 #include <stdio.h>
 
-/* One byte more than the longest message, so that a longer file is still too long. */
-#define ROOM 32769
+/* One byte more than the longest list, which is longer than the longest message: a longer file is still refused for what it is. */
+#define ROOM 131078
 
 struct file {
     uint8_t bytes[ROOM];

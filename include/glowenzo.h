@@ -7,6 +7,8 @@
  * nowhere but into the table. Calls may run at the same time on different threads, provided that no other thread writes what is lent or uses the table.
  * The table must not overlap the message. Lent parts need no alignment. A part of length 0 is empty whatever its pointer is, also a null pointer; a null
  * pointer with any other length is the caller's error.
+ *
+ * Stack. A verdict takes about 120 KB of stack and a regrouping about 230 KB, whatever the message. The archive calls the C library's memset, and nothing else.
  */
 #ifndef GLOWENZO_H
 #define GLOWENZO_H

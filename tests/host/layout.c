@@ -34,6 +34,9 @@ static const char empty_root[] = "<Document xmlns=\"urn:iso:std:iso:20022:tech:x
 static uint8_t m1[4096], m3[4096], list[64], table[GLOWENZO_TABLE_BYTES];
 static int failed;
 
+/* What stands in the table before it is written. */
+#define OLD 0xA5
+
 static uint64_t contents(const char *path, uint8_t *to, uint64_t room)
 {
     FILE *from = fopen(path, "rb");
@@ -69,11 +72,15 @@ int main(int argc, char **argv)
     const uint8_t *root = (const uint8_t *)empty_root;
     uint64_t root_len = sizeof empty_root - 1;
     uint64_t m1_len = contents(argv[1], m1, sizeof m1), m3_len = contents(argv[2], m3, sizeof m3), list_len = contents(argv[3], list, sizeof list);
+    for (uint64_t i = 0; i < sizeof table; i++)
+        table[i] = OLD;
     expect("a refused message", is_verdict(glowenzo_verdict(root, root_len, table, sizeof table), 4, 2, 65, 0, 0, 0));
     expect("a table that is too short", is_verdict(glowenzo_verdict(m1, m1_len, table, sizeof table - 1), 14, 0, 0, 0, 0, 0));
-    expect("an unwritten table", glowenzo_number(table, 1) == 0);
+    for (uint64_t i = 0; i < sizeof table; i++)
+        expect("an unwritten table", table[i] == OLD);
     expect("an accepted message", is_verdict(glowenzo_verdict(m1, m1_len, table, sizeof table), 0, 0, 0, 1, 2, 3510));
     expect("a written table", glowenzo_number(table, GLOWENZO_EUROS) == 12 && glowenzo_number(table, GLOWENZO_CENTS) == 50);
+    expect("a number behind the last payment", table[4 * 2 * GLOWENZO_NUMBERS_PER_PAYMENT] == OLD);
     expect("a null message", is_verdict(glowenzo_verdict(NULL, 0, table, sizeof table), 2, 0, 0, 0, 0, 0));
     expect("a null table", is_verdict(glowenzo_verdict(m1, m1_len, NULL, 0), 14, 0, 0, 0, 0, 0));
     expect("a field that differs", is_regroup(glowenzo_regroup(m1, m1_len, m3, m3_len, list, list_len), 0, 20, 0, 0, 1, 8));

@@ -1,6 +1,5 @@
 -- Two elements that may be absent, compared by what is found of them; remittance, by its parts.
 use Prim.Native.Nat.{ℕ, _+_}
-use native.Mathlib.Omega.{arith}
 use mathlib.Core.List.{List, [], _∷_, _++_}
 use mathlib.Core.Option.{Option, none, some}
 use mathlib.Core.Bool.{Bool, true, false, _&&_}
@@ -8,17 +7,14 @@ use mathlib.Core.Path.{_≡_, refl, sym, ap, _∙_, subst}
 use Rattle.paper.specs.Bytes.{bytes, same}
 use Rattle.paper.specs.Form.{Element}
 use Rattle.paper.specs.Rows.{rows}
-use Rattle.paper.specs.Values.{money, cents}
+use Rattle.paper.specs.Values.{cents}
 use Rattle.paper.specs.Payments.{text-of}
 use Rattle.paper.specs.Fields.{given, given-or, remittance, same-value}
 use Rattle.paper.proofs.Laws.{false-not-true, some-not-none, both-left, same-tests}
-use Rattle.numbers.specs.Readings.{in-cents}
-use Rattle.numbers.specs.declared.Reading.{Reading}
-use Rattle.numbers.specs.declared.Reading.the-variants.{Not, Number}
 use Rattle.routes.specs.Finds.{Finds, Leads, names-of}
 use Rattle.routes.specs.declared.Found.{Found}
 use Rattle.fields.proofs.Fields.{in-payment-is}
-use Rattle.alike.specs.Alike.{cents-of, IsMoney, InPayment}
+use Rattle.alike.specs.Alike.{cents-of, InPayment}
 
 pub and-true : (b : Bool) → (b && true) ≡ b
 and-true true = refl
@@ -81,23 +77,9 @@ pub no-cents : {o : Option Element} → o ≡ none → 0 ≡ cents-of o
 unfolding cents-of
 no-cents p = sym (rw p)
 
-money-read : (w : List ℕ) {x : Reading} → x ≡ in-cents w → money w ≡ true → x ≡ Number (cents w)
-unfolding in-cents
-money-read w e m = e ∙ rw m
-
-pub its-cents : {o : Option Element} {t : Element} {w : List ℕ} {x : Reading} {n : ℕ} → o ≡ some t → IsMoney o → w ≡ text-of t → x ≡ in-cents w → x ≡ Number n
-    → n ≡ cents-of o
+pub its-cents : {o : Option Element} {t : Element} {n : ℕ} → o ≡ some t → n ≡ cents (text-of t) → n ≡ cents-of o
 unfolding cents-of
-its-cents {t = t} {x = x} {n = n} p m q e d =
-    let y : x ≡ Number (cents (text-of t)) = money-read (text-of t) (e ∙ ap in-cents q) (m t p) in
-    let z : n ≡ cents (text-of t) = cc in
-    rw p z
-
-pub is-cents : {A : Type 0} {o : Option Element} {t : Element} {w : List ℕ} {x : Reading} → o ≡ some t → IsMoney o → w ≡ text-of t → x ≡ in-cents w → x ≡ Not → A
-is-cents {t = t} {x = x} p m q e d =
-    let y : x ≡ Number (cents (text-of t)) = money-read (text-of t) (e ∙ ap in-cents q) (m t p) in
-    let z : _≡_ {A = ℕ} 0 1 = cc in
-    absurd (omega arith)
+its-cents p e = rw p e
 
 -- remittance
 swapped : (a b : Bool) → (a && (b && true)) ≡ (b && (a && true))

@@ -2,23 +2,18 @@
 use Prim.Native.Nat.{ℕ}
 use mathlib.Core.List.{List, [], _∷_}
 use mathlib.Core.Option.{Option, none, some}
-use mathlib.Core.Bool.{true}
-use mathlib.Core.Path.{_≡_}
 use Rattle.paper.specs.Form.{Element}
 use Rattle.paper.specs.Rows.{rows}
-use Rattle.paper.specs.Values.{money, cents}
+use Rattle.paper.specs.Values.{cents}
 use Rattle.paper.specs.Payments.{Payment, text-of, in-payment}
 use Rattle.tree.specs.Laid.{Laid}
 use Rattle.routes.specs.Finds.{Finds}
 use Rattle.routes.specs.declared.Found.{Found}
 
--- an amount that may be absent, in cents; it is money where it is there
+-- an amount that may be absent, in cents
 unfoldable pub cents-of : Option Element → ℕ
 cents-of none = 0
 cents-of (some t) = cents (text-of t)
-
-abbrev pub IsMoney : Option Element → Type 0
-IsMoney o = (t : Element) → o ≡ some t → money (text-of t) ≡ true
 
 -- Of the payment whose own element stands there, this is where the route in it leads.
 abbrev pub InPayment : (s tree : List ℕ) (own : ℕ) (route : List ℕ) → Found → Type 0

@@ -1,5 +1,4 @@
 // Elements of two payments that may be absent, compared: by their texts, by the text that absence means, in cents; and remittance (field 17).
-use numbers::Reading;
 use routes::Found;
 ghost use mathlib.Core.Path.{_≡_};
 ghost use mathlib.Core.List.{[], _∷_};
@@ -10,7 +9,8 @@ ghost use Rattle.paper.specs.Payments.{Payment};
 ghost use Rattle.paper.specs.Fields.{given, given-or, remittance, same-value};
 ghost use Rattle.tree.specs.Laid.{Laid};
 ghost use Rattle.routes.specs.Finds.{Finds};
-ghost use Rattle.alike.specs.Alike.{cents-of, IsMoney, InPayment, free-of, issuer-of, reference-of};
+ghost use Rattle.leaves.specs.Readable.{ReadMoney};
+ghost use Rattle.alike.specs.Alike.{cents-of, InPayment, free-of, issuer-of, reference-of};
 
 // An element that may be absent has the text that its absence means.
 fn means(s: &[u8], tree: &[u16], found: Found, otherwise: &[u8]) -> bool
@@ -68,16 +68,12 @@ pub fn same_given(
 
 // The cents of an amount; 0 where there is none.
 pub fn cents(s: &[u8], tree: &[u16], found: Found) -> u64
-    ensures { λ r. ⌜ ((o : Option Element) → Finds (now (s .entry)) (now (tree .entry)) o found → IsMoney o → r ≡ cents-of o) ⌝ }
+    ensures { λ r. ⌜ ((o : Option Element) → Finds (now (s .entry)) (now (tree .entry)) o found → ReadMoney o → r ≡ cents-of o) ⌝ }
 {
     let Found::At(i) = found else {
         return 0;
     };
-    let reading = money::money_cents(leaves::text(s, tree, i));
-    match reading {
-        Reading::Not => 0,
-        Reading::Number(n) => n,
-    }
+    leaves::cents_at(s, tree, i)
 }
 
 // Remittance: the free text, the issuer, the reference.

@@ -14,7 +14,8 @@ use Rattle.paper.specs.Rows.{rows}
 use Rattle.paper.specs.Values.{cents}
 use Rattle.paper.specs.Payments.{Payment, text-of, follow, in-payment, amount-of}
 use Rattle.paper.specs.Fields.{Value, given, given-or, remittance, same-value, field-elements, field-element, values-of, differ-from}
-use Rattle.alike.specs.Alike.{cents-of, IsMoney, free-of, issuer-of, reference-of, amount-in}
+use Rattle.leaves.specs.Readable.{ReadMoney}
+use Rattle.alike.specs.Alike.{cents-of, free-of, issuer-of, reference-of, amount-in}
 use Rattle.compared.specs.Compared.{value-at}
 use Rattle.alike.proofs.Alike.{and-true}
 
@@ -53,7 +54,7 @@ one-number : (a b : ℕ) → eqb a b ≡ same-value ((a ∷ []) ∷ []) ((b ∷ 
 unfolding same-value same
 one-number a b = sym (and-true (eqb a b && true) ∙ and-true (eqb a b))
 
-pub amount-element : (p : Payment) {field : ℕ} → field ≡ 11 → IsMoney (amount-in p) → IsMoney (field-element rows field p)
+pub amount-element : (p : Payment) {field : ℕ} → field ≡ 11 → ReadMoney (amount-in p) → ReadMoney (field-element rows field p)
 unfolding field-element field-elements
 amount-element p e m = rw e m
 

@@ -7,9 +7,10 @@ use Rattle.paper.specs.Rows.{rows}
 use Rattle.paper.specs.Payments.{Payment}
 use Rattle.paper.specs.Fields.{Value, values-of}
 use Rattle.tree.specs.Laid.{Laid}
+use Rattle.leaves.specs.Readable.{ReadMoney}
 use Rattle.compared.specs.declared.Field.{Field}
 use Rattle.compared.specs.declared.Field.the-variants.{Same, Differs}
-use Rattle.alike.specs.Alike.{IsMoney, amount-in}
+use Rattle.alike.specs.Alike.{amount-in}
 
 -- A payment whose own element and block stand there, and whose amount is money.
 pub record Stands (s tree : List ℕ) (own block : ℕ) (p : Payment) : Type 0 where
@@ -17,7 +18,7 @@ pub record Stands (s tree : List ℕ) (own block : ℕ) (p : Payment) : Type 0 w
   pub own-is : Laid s tree (p .own) own own-next
   pub block-next : ℕ
   pub block-is : Laid s tree (p .block) block block-next
-  pub amount-is : IsMoney (amount-in p)
+  pub amount-is : ReadMoney (amount-in p)
 
 -- a field of a payment
 abbrev pub value-at : (field : ℕ) → Payment → Value

@@ -12,7 +12,7 @@ use Rattle.paper.specs.Answers.{refusal-found}
 use Rattle.tree.specs.Laid.{between, Entry}
 use Rattle.paper.specs.declared.Finding.{Finding}
 
--- The judgement at the leaves: none for 3 and 4, that of 6 to 8 for the second walk.
+-- The judgement at the leaves: none for 3 and 4, that of 6 to 8 where the walk is judging.
 unfoldable pub judgement : (judging : Bool) (parent : ℕ) → Row → Head → List ℕ → Option Refusal
 judgement false = no-judgement
 judgement true = leaf-refusal

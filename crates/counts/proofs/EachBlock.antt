@@ -18,6 +18,7 @@ use Rattle.paper.specs.declared.Fault.{Fault}
 use Rattle.paper.specs.declared.Finding.{Finding}
 use Rattle.paper.specs.declared.Finding.the-variants as finding
 use Rattle.paper.proofs.Findings.{found-first}
+use Rattle.paper.proofs.Laws.{all-joined}
 use Rattle.tree.specs.Laid.{Laid}
 use Rattle.order.specs.Ordered.{PaymentsAt, no-payments, more-payments, Ordered}
 use Rattle.leaves.specs.Readable.{ReadBlock, ReadPayment, Readable}
@@ -67,10 +68,6 @@ module _ {s tree out : List ℕ} {k from n : ℕ} {ps rest : List Payment} where
 
 -- all of two lists
 module _ {A : Type 0} {P : A → Type 0} where
-  all-joined : {l m : List A} → All P l → All P m → All P (l ++ m)
-  all-joined all-none k = k
-  all-joined (all-more p h) k = all-more p (all-joined h k)
-
   all-left : (l m : List A) → All P (l ++ m) → All P l
   all-left [] m h = all-none
   all-left (a ∷ l) m (all-more p h) = all-more p (all-left l m h)

@@ -7,10 +7,12 @@ use lib.ListN.{length, drop}
 use Rattle.paper.specs.Form.{Element}
 use Rattle.paper.specs.Rows.{rows}
 use Rattle.paper.specs.Payments.{payments}
-use Rattle.paper.specs.Refusals.{Outcome, refused-as, accepted-with}
+use Rattle.paper.specs.Refusals.{Outcome, refused-as, accepted-with, least-table, outcome}
 use Rattle.paper.specs.Regrouping.{regrouping, returned}
 use Rattle.paper.specs.Table.{numbers-of-a-payment, all-numbers, table-after}
 use Rattle.paper.specs.Host.{four-bytes, all-four-bytes, numbers-held, bytes-after}
+use Rattle.acceptance.proofs.Apart.{rows-apart}
+use Rattle.acceptance.proofs.Outcome.{accepted-with-table, accepted-alone}
 use Rattle.answers.specs.Numbers.{as-regrouping-returned}
 use Rattle.answers.specs.declared.OfMessage.{OfMessage}
 use Rattle.answers.specs.declared.OfRegrouping.{OfRegrouping}
@@ -96,14 +98,26 @@ as-the-reader (accepted-with root) old =
     let k = numbers-of-a-payment * length (payments rows root) in
     numbers-again ns (drop (4 * k) old) ∙ ap (λ (l : List ℕ). ns ++ l) (numbers-drop k old)
 
--- The bytes that make no number stay.
-pub left-stays : (o : Outcome) (old : List ℕ) → ((root : Element) → o ≡ accepted-with root → 4 * (numbers-of-a-payment * length (payments rows root)) ≤ length old)
+-- The bytes that make no number stay: an accepted message has at most 64 payments, and the table room for them.
+left-of-outcome : (o : Outcome) (old : List ℕ) → ((root : Element) → o ≡ accepted-with root → 4 * (numbers-of-a-payment * length (payments rows root)) ≤ length old)
     → left-over (bytes-after rows o old) ≡ left-over old
 unfolding bytes-after
-left-stays (refused-as r) old h = refl
-left-stays (accepted-with root) old h =
+left-of-outcome (refused-as r) old h = refl
+left-of-outcome (accepted-with root) old h =
     let k = numbers-of-a-payment * length (payments rows root) in
     left-again (all-numbers rows (payments rows root)) (drop (4 * k) old) ∙ left-drop k old (h root refl)
+
+room-for-all : (message before : List ℕ) (root : Element) → outcome rows (numbers-held before) message ≡ accepted-with root
+    → 4 * (numbers-of-a-payment * length (payments rows root)) ≤ length before
+unfolding numbers-held numbers-of-a-payment least-table
+room-for-all message before root e =
+    let a = accepted-with-table rows rows-apart (numbers-held before) message root .0 e in
+    let few = accepted-alone rows rows-apart message root .0 (a .1) .2 .payments-limit in
+    omega (arith, a .0, few)
+
+pub left-stays : {message before after : List ℕ} {r : OfMessage} → Answers message before r after → left-over after ≡ left-over before
+left-stays {message} {before} a =
+    ap left-over (a .table-is) ∙ left-of-outcome (outcome rows (numbers-held before) message) before (λ root e. room-for-all message before root e)
 
 -- 999,999,999 euros, as they stand in the table
 an-amount : four-bytes 999999999 ≡ 59 ∷ 154 ∷ 201 ∷ 255 ∷ []

@@ -18,14 +18,15 @@ use Rattle.paper.specs.Accepted.{All, all-none, all-more}
 use Rattle.paper.specs.Fields.{Value, values-of, differ-from}
 use Rattle.paper.specs.Regrouping.{answered, pairing, all-values}
 use Rattle.order.specs.Ordered.{PaymentAt, PaymentsAt, no-payments, more-payments}
-use Rattle.alike.specs.Alike.{IsMoney, amount-in}
+use Rattle.leaves.specs.Readable.{ReadMoney}
+use Rattle.alike.specs.Alike.{amount-in}
 use Rattle.compared.specs.Compared.{lowest, Stands}
 use Rattle.moves.specs.Pairs.{InOrder}
 use Rattle.compared.specs.declared.Field.{Field}
 use Rattle.compared.specs.declared.Field.the-variants.{Same, Differs}
 
 -- a payment at its place in the order
-pub stands : {s tree order : List ℕ} {k own block : ℕ} {p : Payment} → PaymentAt s tree order k p → IsMoney (amount-in p) → own ≡ getD order (16 + 3 * k) 0
+pub stands : {s tree order : List ℕ} {k own block : ℕ} {p : Payment} → PaymentAt s tree order k p → ReadMoney (amount-in p) → own ≡ getD order (16 + 3 * k) 0
     → block ≡ getD order (17 + 3 * k) 0 → Stands s tree own block p
 stands a m e f =
     record {
@@ -40,10 +41,10 @@ stands a m e f =
 pub record There (s tree order : List ℕ) (k : ℕ) (v : List Value) : Type 0 where
   pub it : Payment
   pub at : PaymentAt s tree order k it
-  pub amount : IsMoney (amount-in it)
+  pub amount : ReadMoney (amount-in it)
   pub values : v ≡ values-of rows it
 
-there : {s tree order : List ℕ} (first : ℕ) (ps : List Payment) (k : ℕ) → PaymentsAt s tree order first ps → All (λ p. IsMoney (amount-in p)) ps
+there : {s tree order : List ℕ} (first : ℕ) (ps : List Payment) (k : ℕ) → PaymentsAt s tree order first ps → All (λ p. ReadMoney (amount-in p)) ps
     → k < length ps → There s tree order (first + k) (getD (map (values-of rows) ps) k [])
 there first [] k no-payments all-none h = absurd (omega arith)
 there {s} {tree} {order} first (p ∷ ps) zero (more-payments a b) (all-more m n) h =
@@ -120,7 +121,7 @@ at-start first second ks =
 -- what `differing_pair` says of payment o of the first message and payment k of the second
 abbrev pub Compares : (s1 tree1 order1 : List ℕ) (o : ℕ) (s2 tree2 order2 : List ℕ) (k : ℕ) → Field → Type 0
 Compares s1 tree1 order1 o s2 tree2 order2 k r =
-    o < 64 → k < 64 → (p q : Payment) → PaymentAt s1 tree1 order1 o p → IsMoney (amount-in p) → PaymentAt s2 tree2 order2 k q → IsMoney (amount-in q)
+    o < 64 → k < 64 → (p q : Payment) → PaymentAt s1 tree1 order1 o p → ReadMoney (amount-in p) → PaymentAt s2 tree2 order2 k q → ReadMoney (amount-in q)
     → lowest r ≡ differ-from 1 (values-of rows p) (values-of rows q)
 
 module _ {s1 tree1 order1 s2 tree2 order2 : List ℕ} {n : ℕ} {root1 root2 : Element} (ks : List ℕ) {marks : List ℕ} {k : ℕ}

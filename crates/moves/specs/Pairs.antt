@@ -9,7 +9,8 @@ use Rattle.paper.specs.Payments.{payments}
 use Rattle.paper.specs.Accepted.{All}
 use Rattle.paper.specs.Regrouping.{Answer, answered}
 use Rattle.order.specs.Ordered.{PaymentsAt}
-use Rattle.alike.specs.Alike.{IsMoney, amount-in}
+use Rattle.leaves.specs.Readable.{ReadMoney}
+use Rattle.alike.specs.Alike.{amount-in}
 use Rattle.moves.specs.declared.Paired.{Paired}
 use Rattle.moves.specs.declared.Paired.the-variants.{Accepted, OrdinalTooLarge, NamedBefore, FieldsDiffer}
 
@@ -18,7 +19,7 @@ pub record InOrder (s tree order : List ℕ) (n : ℕ) (root : Element) : Type 0
   pub number-is : length (payments rows root) ≡ n
   pub few : n ≤ 64
   pub stand : PaymentsAt s tree order 0 (payments rows root)
-  pub amounts : All (λ p. IsMoney (amount-in p)) (payments rows root)
+  pub amounts : All (λ p. ReadMoney (amount-in p)) (payments rows root)
 
 -- the paper's numbers
 unfoldable pub answer-of : Paired → Answer

@@ -11,7 +11,8 @@ ghost use Rattle.paper.specs.Payments.{Payment};
 ghost use Rattle.paper.specs.Fields.{values-of, differ-from};
 ghost use Rattle.paper.specs.Regrouping.{ordinals-of, pairing, all-values};
 ghost use Rattle.order.specs.Ordered.{PaymentAt};
-ghost use Rattle.alike.specs.Alike.{IsMoney, amount-in};
+ghost use Rattle.leaves.specs.Readable.{ReadMoney};
+ghost use Rattle.alike.specs.Alike.{amount-in};
 ghost use Rattle.compared.specs.Compared.{lowest};
 ghost use Rattle.moves.specs.Pairs.{InOrder, answer-of};
 
@@ -34,7 +35,7 @@ fn differing_pair(
     order2: &[u16],
     k: usize,
 ) -> Field
-    ensures { λ r. ⌜ (o < 64 → k < 64 → (p q : Payment) → PaymentAt (now (s1 .entry)) (now (tree1 .entry)) (now (order1 .entry)) o p → IsMoney (amount-in p) → PaymentAt (now (s2 .entry)) (now (tree2 .entry)) (now (order2 .entry)) k q → IsMoney (amount-in q) → lowest r ≡ differ-from 1 (values-of rows p) (values-of rows q)) ⌝ }
+    ensures { λ r. ⌜ (o < 64 → k < 64 → (p q : Payment) → PaymentAt (now (s1 .entry)) (now (tree1 .entry)) (now (order1 .entry)) o p → ReadMoney (amount-in p) → PaymentAt (now (s2 .entry)) (now (tree2 .entry)) (now (order2 .entry)) k q → ReadMoney (amount-in q) → lowest r ≡ differ-from 1 (values-of rows p) (values-of rows q)) ⌝ }
 {
     if 64 <= o {
         return Field::Same;

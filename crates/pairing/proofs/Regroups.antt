@@ -17,8 +17,8 @@ use Rattle.paper.specs.Payments.{Payment, payments}
 use Rattle.paper.specs.Refusals.{Outcome, refused-as, accepted-with, outcome-alone}
 use Rattle.paper.specs.Accepted.{All, all-none, all-more, Accepted}
 use Rattle.paper.specs.Fields.{Value, values-of}
-use Rattle.paper.specs.Regrouping.{Answer, answered, add-first, numbers-16, counted, ordinals-of, two-bytes, all-two-bytes, file-of, same-payment, often, pairing, of-payments, all-values, of-outcomes, regrouping, Regroups}
-use Rattle.paper.proofs.Laws.{both, all-map, all-from}
+use Rattle.paper.specs.Regrouping.{Answer, answered, add-first, numbers-16, counted, ordinals-of, two-bytes, all-two-bytes, file-of, same-payment, often, pairing, of-payments, all-values, of-outcomes, regrouping, Regroups, AcceptableList, EquallyOften}
+use Rattle.paper.proofs.Laws.{both, all-map, all-from, all-joined}
 use Rattle.acceptance.proofs.Accepts.{accepted-from, outcome-of}
 use Rattle.pairing.proofs.Counting.{count, Names, names-none, names-more, Pairs, paired-counts, counts-paired}
 use Rattle.pairing.proofs.Pairing.{same-payment-says, same-payment-tests, pairing-rest, rest-pairing}
@@ -187,19 +187,15 @@ two-bytes-small : (n : ℕ) → n < 65536 → All (λ b. b < 256) (two-bytes n)
 unfolding two-bytes
 two-bytes-small n h = all-more {a = n / 256} (omega arith) (all-more {a = n % 256} (omega arith) all-none)
 
-all-append : {A : Type 0} {P : A → Type 0} {l m : List A} → All P l → All P m → All P (l ++ m)
-all-append all-none k = k
-all-append (all-more p h) k = all-more p (all-append h k)
-
 all-small : {ns : List ℕ} → All (λ n. n < 65536) ns → All (λ b. b < 256) (all-two-bytes ns)
 unfolding all-two-bytes
 all-small all-none = all-none
-all-small (all-more p h) = all-append (two-bytes-small _ p) (all-small h)
+all-small (all-more p h) = all-joined (two-bytes-small _ p) (all-small h)
 
 pub file-bytes : (os : List ℕ) → length os < 65536 → All (λ o. o < 65536) os → All (λ b. b < 256) (file-of os)
 unfolding file-of bytes
 file-bytes os l h =
-    all-append (all-more {a = 82} (omega arith) (all-more {a = 71} (omega arith) (all-more {a = 76} (omega arith) all-none)))
+    all-joined (all-more {a = 82} (omega arith) (all-more {a = 71} (omega arith) (all-more {a = 76} (omega arith) all-none)))
     (all-small (all-more {a = 1} (omega arith) (all-more l h)))
 
 -- `often` counts
@@ -212,17 +208,9 @@ often-counts p (q ∷ l) = rw (often-counts p l)
 same-root : (s : List ℕ) (a b : Accepted rows s) → a .root ≡ b .root
 same-root s a b = let e : accepted-with (a .root) ≡ accepted-with (b .root) = sym (outcome-of s a) ∙ outcome-of s b in cc
 
--- For two accepted messages an acceptable list of bytes exists exactly where every payment stands equally often in both.
-pub record AcceptableList (first second : List ℕ) : Type 0 where
-  pub file : List ℕ
-  pub of-bytes : All (λ b. b < 256) file
-  pub accepted : Regroups rows first second file
-
+-- For two accepted messages an acceptable list exists exactly where every payment stands equally often in both.
 module _ (first second : List ℕ) (a : Accepted rows first) (b : Accepted rows second) where
-  unfoldable pub EquallyOften : Type 0
-  EquallyOften = (p : List Value) → often p (all-values rows (a .root)) ≡ often p (all-values rows (b .root))
-
-  often-list : EquallyOften → AcceptableList first second
+  often-list : EquallyOften rows (a .root) (b .root) → AcceptableList rows first second
   unfolding EquallyOften
   often-list h = go (counts-paired same-payment same-payment-says same-payment-tests [] (all-values rows (a .root)) (all-values rows (b .root)) counts)
     where
@@ -230,7 +218,7 @@ module _ (first second : List ℕ) (a : Accepted rows first) (b : Accepted rows 
           count same-payment same-payment-says same-payment-tests v (all-values rows (b .root))
       counts v = sym (often-counts v (all-values rows (a .root))) ∙ h v ∙ often-counts v (all-values rows (b .root))
 
-      go : ((os : List ℕ) × Pairs same-payment same-payment-says same-payment-tests [] (all-values rows (a .root)) os (all-values rows (b .root))) → AcceptableList first second
+      go : ((os : List ℕ) × Pairs same-payment same-payment-says same-payment-tests [] (all-values rows (a .root)) os (all-values rows (b .root))) → AcceptableList rows first second
       go (os, p) =
           let few : length os ≤ 64 = omega (arith, p .as-many, as-many-values (a .root), a .tree .payments-limit) in
           record {
@@ -248,7 +236,7 @@ module _ (first second : List ℕ) (a : Accepted rows first) (b : Accepted rows 
           lower : (o : ℕ) → o < length (all-values rows (a .root)) → o < 65536
           lower o k = omega (arith, as-many-values (a .root), a .tree .payments-limit)
 
-  list-often : AcceptableList first second → EquallyOften
+  list-often : AcceptableList rows first second → EquallyOften rows (a .root) (b .root)
   unfolding EquallyOften listed
   list-often l v =
       let r = l .accepted in
@@ -259,5 +247,5 @@ module _ (first second : List ℕ) (a : Accepted rows first) (b : Accepted rows 
       (all-values rows (r .second-accepted .root)) p v) ∙
       ap (λ (t : Element). count same-payment same-payment-says same-payment-tests v (all-values rows t)) (same-root second (r .second-accepted) b) ∙ sym (often-counts v _)
 
-  pub list-exists-exactly : AcceptableList first second ↔ EquallyOften
+  pub list-exists-exactly : AcceptableList rows first second ↔ EquallyOften rows (a .root) (b .root)
   list-exists-exactly = (list-often, often-list)

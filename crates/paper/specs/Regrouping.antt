@@ -127,3 +127,12 @@ module _ (profile : List Row) where
     pub once : Distinct ordinals
     pub paired : (k : ℕ) → k < length ordinals
         → getD (all-values (first-accepted .root)) (getD ordinals k 0) [] ≡ getD (all-values (second-accepted .root)) k []
+
+  -- An acceptable list, of bytes; and that every payment, taken as those seventeen fields, stands equally often in both.
+  pub record AcceptableList (first second : List ℕ) : Type 0 where
+    pub file : List ℕ
+    pub of-bytes : All (λ b. b < 256) file
+    pub accepted : Regroups first second file
+
+  unfoldable pub EquallyOften : (first second : Element) → Type 0
+  EquallyOften first second = (p : List Value) → often p (all-values first) ≡ often p (all-values second)

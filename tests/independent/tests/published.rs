@@ -1,4 +1,4 @@
-//! What the source documents print, with the verdicts of published.md.
+//! What the source documents print, with the verdicts that document 01 gives.
 
 mod common;
 use common::*;

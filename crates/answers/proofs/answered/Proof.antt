@@ -6,7 +6,6 @@ use Rattle.answers.proofs.answered.Tie as tie
 use Rattle.answers.proofs.answered.Reads as reads
 use Rattle.answers.proofs.answered.Lts as lts
 
--- src/lib.rt:116:1
 returns : tie.Need-returns
 unfolding as-regrouping-returned returned
 returns c = refl

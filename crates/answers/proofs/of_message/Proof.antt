@@ -7,24 +7,19 @@ use Rattle.answers.proofs.of_message.Reads as reads
 use Rattle.answers.proofs.of_message.Lts as lts
 use Rattle.answers.proofs.refusal_of.Reads as refusal-of-reads
 
--- src/lib.rt:65:13
 enum-known-verdict : tie.Need-enum-known-verdict
 enum-known-verdict c = search needs
 
--- src/lib.rt:76:26
 enum-known-verdict-2 : tie.Need-enum-known-verdict-2
 enum-known-verdict-2 c = search needs
 
--- src/lib.rt:77:17
 refusal-of-requires : tie.Need-refusal-of-requires
 refusal-of-requires c κs = search needs
 
--- src/lib.rt:60:1
 returns : tie.Need-returns
 unfolding as-returned
 returns c = accepted-returned (c .before .verdict .given .1)
 
--- src/lib.rt:60:1
 returns-2 : tie.Need-returns-2
 unfolding as-returned
 returns-2 c = message-returned (c .before .before .verdict2 .given .0 .0) (c .refusal-of .ensures) (c .before .before .verdict2 .given .1)

@@ -9,119 +9,92 @@ use Rattle.answers.proofs.of_regrouping.Lts as lts
 use Rattle.answers.proofs.answered.Reads as answered-reads
 use Rattle.answers.proofs.refused_of.Reads as refused-of-reads
 
--- src/lib.rt:133:33
 enum-told : tie.Need-enum-told
 enum-told c = search needs
 
--- src/lib.rt:133:33
 answered-requires : tie.Need-answered-requires
 answered-requires c κs = search needs
 
--- src/lib.rt:134:34
 enum-known-answer : tie.Need-enum-known-answer
 enum-known-answer c = search needs
 
--- src/lib.rt:134:44
 refused-of-requires : tie.Need-refused-of-requires
 refused-of-requires c κs = search needs
 
--- src/lib.rt:135:35
 enum-known-answer-2 : tie.Need-enum-known-answer-2
 enum-known-answer-2 c = search needs
 
--- src/lib.rt:135:45
 refused-of-requires-2 : tie.Need-refused-of-requires-2
 refused-of-requires-2 c κs = search needs
 
--- src/lib.rt:136:48
 enum-told-2 : tie.Need-enum-told-2
 enum-told-2 c = search needs
 
--- src/lib.rt:136:48
 answered-requires-2 : tie.Need-answered-requires-2
 answered-requires-2 c κs = search needs
 
--- src/lib.rt:137:41
 enum-told-3 : tie.Need-enum-told-3
 enum-told-3 c = search needs
 
--- src/lib.rt:137:41
 answered-requires-3 : tie.Need-answered-requires-3
 answered-requires-3 c κs = search needs
 
--- src/lib.rt:138:52
 enum-told-4 : tie.Need-enum-told-4
 enum-told-4 c = search needs
 
--- src/lib.rt:138:52
 answered-requires-4 : tie.Need-answered-requires-4
 answered-requires-4 c κs = search needs
 
--- src/lib.rt:139:39
 enum-known-answer-3 : tie.Need-enum-known-answer-3
 enum-known-answer-3 c = search needs
 
--- src/lib.rt:139:46
 answered-requires-5 : tie.Need-answered-requires-5
 answered-requires-5 c κs = search needs
 
--- src/lib.rt:140:35
 enum-known-answer-4 : tie.Need-enum-known-answer-4
 enum-known-answer-4 c = search needs
 
--- src/lib.rt:140:42
 answered-requires-6 : tie.Need-answered-requires-6
 answered-requires-6 c κs = search needs
 
--- src/lib.rt:141:36
 enum-known-answer-5 : tie.Need-enum-known-answer-5
 enum-known-answer-5 c = search needs
 
--- src/lib.rt:141:50
 answered-requires-7 : tie.Need-answered-requires-7
 answered-requires-7 c κs = search needs
 
--- src/lib.rt:129:1
 returns : tie.Need-returns
 unfolding regrouping-of
 returns c = as-answered (c .before .enum-told .given .1) (c .answered .ensures) refl
 
--- src/lib.rt:129:1
 returns-2 : tie.Need-returns-2
 unfolding regrouping-of
 returns-2 c = as-answered (c .before .before .answer .given .1) (c .refused-of .ensures) refl
 
--- src/lib.rt:129:1
 returns-3 : tie.Need-returns-3
 unfolding regrouping-of
 returns-3 c = as-answered (c .before .before .answer2 .given .1) (c .refused-of2 .ensures) refl
 
--- src/lib.rt:129:1
 returns-4 : tie.Need-returns-4
 unfolding regrouping-of
 returns-4 c = as-answered (c .before .enum-told2 .given .1) (c .answered2 .ensures) refl
 
--- src/lib.rt:129:1
 returns-5 : tie.Need-returns-5
 unfolding regrouping-of
 returns-5 c = as-answered (c .before .enum-told3 .given .1) (c .answered3 .ensures) refl
 
--- src/lib.rt:129:1
 returns-6 : tie.Need-returns-6
 unfolding regrouping-of
 returns-6 c = as-answered (c .before .enum-told4 .given .1) (c .answered4 .ensures) refl
 
--- src/lib.rt:129:1
 returns-7 : tie.Need-returns-7
 unfolding regrouping-of
 returns-7 c = as-answered (c .before .before .answer3 .given .1) (c .answered5 .ensures) refl
 
--- src/lib.rt:129:1
 returns-8 : tie.Need-returns-8
 unfolding regrouping-of
 returns-8 c = as-answered (c .before .before .answer4 .given .1) (c .answered6 .ensures) refl
 
--- src/lib.rt:129:1
 returns-9 : tie.Need-returns-9
 unfolding regrouping-of
 returns-9 c = as-answered (c .before .before .answer5 .given .1) (c .answered7 .ensures) refl

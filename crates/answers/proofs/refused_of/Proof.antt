@@ -7,11 +7,9 @@ use Rattle.answers.proofs.refused_of.Reads as reads
 use Rattle.answers.proofs.refused_of.Lts as lts
 use Rattle.answers.proofs.refusal_of.Reads as refusal-of-reads
 
--- src/lib.rt:105:9
 refusal-of-requires : tie.Need-refusal-of-requires
 refusal-of-requires c κs = search needs
 
--- src/lib.rt:102:1
 returns : tie.Need-returns
 unfolding as-regrouping-returned
 returns c = whose-returned (c .before .args .fault) (c .refusal-of .ensures) (c .before .args .whose)

@@ -8,15 +8,12 @@ use Rattle.host.proofs.glowenzo_regroup.Lts as lts
 use Rattle.answers.proofs.of_regrouping.Reads as of-regrouping-reads
 use Rattle.regrouping.proofs.regroup.Reads as regroup-reads
 
--- src/lib.rt:78:28
 regroup-requires : tie.Need-regroup-requires
 regroup-requires c κs = search needs
 
--- src/lib.rt:78:5
 of-regrouping-requires : tie.Need-of-regrouping-requires
 of-regrouping-requires c κs = search needs
 
--- src/lib.rt:74:1
 returns : tie.Need-returns
 returns c = c .of-regrouping .ensures ∙ ap returned (c .before .regroup .ensures)
 

@@ -12,59 +12,45 @@ use Rattle.answers.proofs.of_message.Reads as of-message-reads
 use Rattle.host.proofs.write.Reads as write-reads
 use Rattle.reader.proofs.verdict.Reads as verdict-reads
 
--- src/lib.rt:52:9
 of-message-requires : tie.Need-of-message-requires
 of-message-requires c κs = search needs
 
--- src/lib.rt:52:9
 returns : tie.Need-returns
 returns c = too-short (now (c .before .before .before .before .args .message)) (now (c .before .before .before .before .args .table)) (c .before .if1 .taken) (c .of-message .ensures)
 
--- src/lib.rt:55:42
 slice-aggregate-verdict : tie.Need-slice-aggregate-verdict
 slice-aggregate-verdict c = search needs
 
--- src/lib.rt:55:9
 verdict-requires : tie.Need-verdict-requires
 verdict-requires c κs = search needs
 
--- src/lib.rt:57:26
 enum-known-found : tie.Need-enum-known-found
 enum-known-found c = search needs
 
--- src/lib.rt:57:36
 of-message-requires-2 : tie.Need-of-message-requires-2
 of-message-requires-2 c κs = search needs
 
--- src/lib.rt:59:13
 enum-known-found-2 : tie.Need-enum-known-found-2
 enum-known-found-2 c = search needs
 
--- src/lib.rt:63:19
 slice-aggregate-write : tie.Need-slice-aggregate-write
 slice-aggregate-write c = search needs
 
--- src/lib.rt:63:29
 mul-write : tie.Need-mul-write
 mul-write c = record { fits = omega (arith, room (now (c .before .before .before .before .before .before .before .before .before .before .args .message)) (now (c .before .before .before .before .before .before .before .before .before .before .args .table)) (c .before .before .before .before .before .before .before .if1 .left) (omega (arith, length-replicate {A = ℕ} 1024 0)) (c .before .before .before .before .before .verdict .ensures) (c .before .before .found2 .given .1) (c .before .before .before .before .numbers2 .given)) }
 
--- src/lib.rt:63:13
 write-requires : tie.Need-write-requires
 write-requires c κs = search needs
 
--- src/lib.rt:64:13
 of-message-requires-3 : tie.Need-of-message-requires-3
 of-message-requires-3 c κs = search needs
 
--- src/lib.rt:47:1
 returns-2 : tie.Need-returns-2
 returns-2 c = refused-bytes (now (c .before .before .before .before .before .before .before .before .before .before .args .message)) (now (c .before .before .before .before .before .before .before .before .before .before .args .table)) (c .before .before .before .before .before .before .before .if1 .left) (omega (arith, length-replicate {A = ℕ} 1024 0)) (c .before .before .before .before .before .verdict .ensures) (c .before .before .found .given .1) (c .of-message2 .ensures)
 
--- src/lib.rt:47:1
 same-length : tie.Need-same-length
 same-length c = search needs
 
--- src/lib.rt:47:1
 returns-3 : tie.Need-returns-3
 returns-3 c = accepted-bytes (now (c .before .before .before .before .before .before .before .before .before .before .before .before .before .before .before .args .message)) (now (c .before .before .before .before .before .before .before .before .before .before .before .before .before .before .before .args .table)) (c .before .before .before .before .before .before .before .before .before .before .before .before .if1 .left) (omega (arith, length-replicate {A = ℕ} 1024 0)) (c .before .before .before .before .before .before .before .before .before .before .verdict .ensures) (c .before .before .before .before .before .before .before .found2 .given .1) (c .before .before .before .before .before .before .before .before .before .numbers2 .given) (c .of-message3 .ensures) (c .before .before .before .write .ensures)
 

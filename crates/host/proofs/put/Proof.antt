@@ -9,67 +9,51 @@ use Rattle.host.proofs.put.Tie as tie
 use Rattle.host.proofs.put.Reads as reads
 use Rattle.host.proofs.put.Lts as lts
 
--- src/lib.rt:21:9
 returns : tie.Need-returns
 returns c = λ h. absurd (omega arith)
 
--- src/lib.rt:23:8
 sub-if2 : tie.Need-sub-if2
 sub-if2 c = search needs
 
--- src/lib.rt:24:9
 returns-2 : tie.Need-returns-2
 returns-2 c = λ h. absurd (omega arith)
 
--- src/lib.rt:26:17
 cast-table : tie.Need-cast-table
 cast-table c = search needs
 
--- src/lib.rt:26:5
 slice-write-table : tie.Need-slice-write-table
 slice-write-table c = search needs
 
--- src/lib.rt:27:21
 cast-table-2 : tie.Need-cast-table-2
 cast-table-2 c = search needs
 
--- src/lib.rt:27:11
 add-table : tie.Need-add-table
 add-table c = search needs
 
--- src/lib.rt:27:5
 slice-write-table-2 : tie.Need-slice-write-table-2
 slice-write-table-2 c = room-1 (now (c .before .before .args .table)) (c .before .before .args .at) (c .before .before .args .n / 16777216) (c .before .before .args .n / 65536 % 256) (c .before .before .args .n / 256 % 256) (omega arith)
 
--- src/lib.rt:28:21
 cast-table-3 : tie.Need-cast-table-3
 cast-table-3 c = search needs
 
--- src/lib.rt:28:11
 add-table-2 : tie.Need-add-table-2
 add-table-2 c = search needs
 
--- src/lib.rt:28:5
 slice-write-table-3 : tie.Need-slice-write-table-3
 slice-write-table-3 c = room-2 (now (c .before .before .args .table)) (c .before .before .args .at) (c .before .before .args .n / 16777216) (c .before .before .args .n / 65536 % 256) (c .before .before .args .n / 256 % 256) (omega arith)
 
--- src/lib.rt:29:21
 cast-table-4 : tie.Need-cast-table-4
 cast-table-4 c = search needs
 
--- src/lib.rt:29:11
 add-table-3 : tie.Need-add-table-3
 add-table-3 c = search needs
 
--- src/lib.rt:29:5
 slice-write-table-4 : tie.Need-slice-write-table-4
 slice-write-table-4 c = room-3 (now (c .before .before .args .table)) (c .before .before .args .at) (c .before .before .args .n / 16777216) (c .before .before .args .n / 65536 % 256) (c .before .before .args .n / 256 % 256) (omega arith)
 
--- src/lib.rt:17:1
 same-length : tie.Need-same-length
 same-length c = search needs
 
--- src/lib.rt:17:1
 returns-3 : tie.Need-returns-3
 unfolding four-bytes
 returns-3 c = λ h. four-put (now (c .before .before .args .table)) (c .before .before .args .at) (c .before .before .args .n / 16777216) (c .before .before .args .n / 65536 % 256) (c .before .before .args .n / 256 % 256) (c .before .before .args .n % 256) h

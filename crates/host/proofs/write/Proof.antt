@@ -18,51 +18,39 @@ Inv-loop numbers many table₀ i₀ table i =
 abbrev μ-loop : tie.MeasureT-loop
 μ-loop numbers many table₀ i₀ table i = many - i
 
--- src/lib.rt:37:5
 loop-holds : tie.Need-loop-holds Inv-loop μ-loop
 loop-holds c = (refl, omega arith, λ h k. none-written (now (c .before .before .args .numbers)) (now (c .before .before .args .table)))
 
--- src/lib.rt:39:13
 same-length : tie.Need-same-length Inv-loop μ-loop
 same-length c = c .before .before .loop .inv .0
 
--- src/lib.rt:39:13
 returns : tie.Need-returns Inv-loop μ-loop
 returns c = λ h k. absurd (omega arith)
 
--- src/lib.rt:41:20
 mul-put : tie.Need-mul-put Inv-loop μ-loop
 mul-put c = search needs
 
--- src/lib.rt:41:27
 mul-put-2 : tie.Need-mul-put-2 Inv-loop μ-loop
 mul-put-2 c = search needs
 
--- src/lib.rt:41:27
 shared-slice-read-put : tie.Need-shared-slice-read-put Inv-loop μ-loop
 shared-slice-read-put c = search needs
 
--- src/lib.rt:41:9
 put-requires : tie.Need-put-requires Inv-loop μ-loop
 put-requires c κs = search needs
 
--- src/lib.rt:42:9
 add-i : tie.Need-add-i Inv-loop μ-loop
 add-i c = search needs
 
--- src/lib.rt:37:5
 loop-less : tie.Need-loop-less Inv-loop μ-loop
 loop-less c = search needs
 
--- src/lib.rt:37:5
 loop-again : tie.Need-loop-again Inv-loop μ-loop
 loop-again c = (search needs, omega arith, λ h k. one-written (now (c .before .before .before .before .before .before .before .before .before .before .args .numbers)) (now (c .before .before .before .before .before .before .before .before .before .before .args .table)) (c .before .before .before .before .before .before .before .loop .i) (omega arith) (c .before .before .before .before .before .before .before .loop .inv .0) (c .before .before .before .before .before .before .before .loop .inv .2 h k) (omega arith) (c .before .before .put .ensures))
 
--- src/lib.rt:33:1
 same-length-2 : tie.Need-same-length-2 Inv-loop μ-loop
 same-length-2 c = c .before .loop .inv .0
 
--- src/lib.rt:33:1
 returns-2 : tie.Need-returns-2 Inv-loop μ-loop
 returns-2 c = λ h k. all-written (now (c .before .before .before .before .args .numbers)) (now (c .before .before .before .before .args .table)) (c .before .loop .i) (c .before .before .before .before .args .many) (omega arith) (c .before .loop .inv .2 h k)
 

@@ -37,7 +37,6 @@ abbrev elements-below : ℕ → In 2 elements-kinds.ps
 elements-below t =
     and 2 elements-kinds.ps (falls 2 elements-kinds.ps _<_ μ-elements t) elements.Pre
 
--- src/lib.rt:143:9
 element-returns : (t : ℕ) → element-lts.Need-returns (
   find-reads.Asked,
   find-reads.Learnt,
@@ -50,7 +49,6 @@ element-returns : (t : ℕ) → element-lts.Need-returns (
 ) (element-at t) element.Post
 element-returns t c = too-deep (c .if1 .taken)
 
--- src/lib.rt:146:9
 element-returns-2 : (t : ℕ) → element-lts.Need-returns-2 (
   find-reads.Asked,
   find-reads.Learnt,
@@ -63,7 +61,6 @@ element-returns-2 : (t : ℕ) → element-lts.Need-returns-2 (
 ) (element-at t) element.Post
 element-returns-2 t c = too-many (c .if2 .taken)
 
--- src/lib.rt:148:9
 element-find-requires : (t : ℕ) → element-lts.Need-find-requires (
   find-reads.Asked,
   find-reads.Learnt,
@@ -76,7 +73,6 @@ element-find-requires : (t : ℕ) → element-lts.Need-find-requires (
 ) (element-at t) element.Post
 element-find-requires t c κs = search needs
 
--- src/lib.rt:149:9
 element-find-requires-2 : (t : ℕ) → element-lts.Need-find-requires-2 (
   find-reads.Asked,
   find-reads.Learnt,
@@ -89,7 +85,6 @@ element-find-requires-2 : (t : ℕ) → element-lts.Need-find-requires-2 (
 ) (element-at t) element.Post
 element-find-requires-2 t c κs = search needs
 
--- src/lib.rt:151:9
 element-returns-3 : (t : ℕ) → element-lts.Need-returns-3 (
   find-reads.Asked,
   find-reads.Learnt,
@@ -102,7 +97,6 @@ element-returns-3 : (t : ℕ) → element-lts.Need-returns-3 (
 ) (element-at t) element.Post
 element-returns-3 t c = no-tag-end (c .before .before .find .ensures) (c .before .find2 .ensures) (c .if3 .taken)
 
--- src/lib.rt:153:17
 element-add-start : (t : ℕ) → element-lts.Need-add-start (
   find-reads.Asked,
   find-reads.Learnt,
@@ -115,7 +109,6 @@ element-add-start : (t : ℕ) → element-lts.Need-add-start (
 ) (element-at t) element.Post
 element-add-start t c = search needs
 
--- src/lib.rt:154:41
 element-add-elements : (t : ℕ) → element-lts.Need-add-elements (
   find-reads.Asked,
   find-reads.Learnt,
@@ -128,7 +121,6 @@ element-add-elements : (t : ℕ) → element-lts.Need-add-elements (
 ) (element-at t) element.Post
 element-add-elements t c = search needs
 
--- src/lib.rt:154:48
 element-add-elements-2 : (t : ℕ) → element-lts.Need-add-elements-2 (
   find-reads.Asked,
   find-reads.Learnt,
@@ -141,7 +133,6 @@ element-add-elements-2 : (t : ℕ) → element-lts.Need-add-elements-2 (
 ) (element-at t) element.Post
 element-add-elements-2 t c = search needs
 
--- src/lib.rt:154:9
 element-elements-requires : (t : ℕ) → element-lts.Need-elements-requires (
   find-reads.Asked,
   find-reads.Learnt,
@@ -154,7 +145,6 @@ element-elements-requires : (t : ℕ) → element-lts.Need-elements-requires (
 ) (element-at t) element.Post
 element-elements-requires t c κs = (omega (arith, c .before .before .before .before .before .before .before .before .pre .0, c .before .before .before .before .before .if1 .left), search needs)
 
--- src/lib.rt:157:5
 element-put-down-requires : (t : ℕ) → element-lts.Need-put-down-requires (
   find-reads.Asked,
   find-reads.Learnt,
@@ -167,7 +157,6 @@ element-put-down-requires : (t : ℕ) → element-lts.Need-put-down-requires (
 ) (element-at t) element.Post
 element-put-down-requires t c κs = search needs
 
--- src/lib.rt:168:9
 element-behind-requires : (t : ℕ) → element-lts.Need-behind-requires (
   find-reads.Asked,
   find-reads.Learnt,
@@ -180,7 +169,6 @@ element-behind-requires : (t : ℕ) → element-lts.Need-behind-requires (
 ) (element-at t) element.Post
 element-behind-requires t c κs = search needs
 
--- src/lib.rt:138:1
 element-same-length : (t : ℕ) → element-lts.Need-same-length (
   find-reads.Asked,
   find-reads.Learnt,
@@ -193,7 +181,6 @@ element-same-length : (t : ℕ) → element-lts.Need-same-length (
 ) (element-at t) element.Post
 element-same-length t c = search needs
 
--- src/lib.rt:138:1
 element-returns-4 : (t : ℕ) → element-lts.Need-returns-4 (
   find-reads.Asked,
   find-reads.Learnt,
@@ -212,7 +199,6 @@ elements-Inv-loop s tree₀ from i depth at₀ next₀ tree at next = Laying s t
 abbrev elements-μ-loop : elements-lts.MeasureT-loop
 elements-μ-loop s tree₀ from i depth at₀ next₀ tree at next = 16384 - next
 
--- src/lib.rt:176:9
 elements-find-requires : (t : ℕ) → elements-lts.Need-find-requires (
   find-reads.Asked,
   find-reads.Learnt,
@@ -223,7 +209,6 @@ elements-find-requires : (t : ℕ) → elements-lts.Need-find-requires (
 ) (elements-at t) elements.Post elements-Inv-loop elements-μ-loop
 elements-find-requires t c κs = search needs
 
--- src/lib.rt:178:5
 elements-loop-holds : (t : ℕ) → elements-lts.Need-loop-holds (
   find-reads.Asked,
   find-reads.Learnt,
@@ -234,7 +219,6 @@ elements-loop-holds : (t : ℕ) → elements-lts.Need-loop-holds (
 ) (elements-at t) elements.Post elements-Inv-loop elements-μ-loop
 elements-loop-holds t c = laying-begins (c .find .ensures)
 
--- src/lib.rt:179:30
 elements-add-byte-at : (t : ℕ) → elements-lts.Need-add-byte-at (
   find-reads.Asked,
   find-reads.Learnt,
@@ -245,7 +229,6 @@ elements-add-byte-at : (t : ℕ) → elements-lts.Need-add-byte-at (
 ) (elements-at t) elements.Post elements-Inv-loop elements-μ-loop
 elements-add-byte-at t c = search needs
 
--- src/lib.rt:179:12
 elements-byte-at-requires : (t : ℕ) → elements-lts.Need-byte-at-requires (
   find-reads.Asked,
   find-reads.Learnt,
@@ -256,7 +239,6 @@ elements-byte-at-requires : (t : ℕ) → elements-lts.Need-byte-at-requires (
 ) (elements-at t) elements.Post elements-Inv-loop elements-μ-loop
 elements-byte-at-requires t c κs = search needs
 
--- src/lib.rt:180:13
 elements-same-length : (t : ℕ) → elements-lts.Need-same-length (
   find-reads.Asked,
   find-reads.Learnt,
@@ -267,7 +249,6 @@ elements-same-length : (t : ℕ) → elements-lts.Need-same-length (
 ) (elements-at t) elements.Post elements-Inv-loop elements-μ-loop
 elements-same-length t c = search needs
 
--- src/lib.rt:180:13
 elements-returns : (t : ℕ) → elements-lts.Need-returns (
   find-reads.Asked,
   find-reads.Learnt,
@@ -278,7 +259,6 @@ elements-returns : (t : ℕ) → elements-lts.Need-returns (
 ) (elements-at t) elements.Post elements-Inv-loop elements-μ-loop
 elements-returns t c = laying-ends (c .before .before .before .loop .inv) (sym (c .before .byte-at .ensures) ∙ c .if1 .taken)
 
--- src/lib.rt:182:13
 elements-element-requires : (t : ℕ) → elements-lts.Need-element-requires (
   find-reads.Asked,
   find-reads.Learnt,
@@ -289,7 +269,6 @@ elements-element-requires : (t : ℕ) → elements-lts.Need-element-requires (
 ) (elements-at t) elements.Post elements-Inv-loop elements-μ-loop
 elements-element-requires t c κs = (omega (arith, c .before .before .before .before .before .before .before .before .pre .0), search needs)
 
--- src/lib.rt:184:13
 elements-same-length-2 : (t : ℕ) → elements-lts.Need-same-length-2 (
   find-reads.Asked,
   find-reads.Learnt,
@@ -300,7 +279,6 @@ elements-same-length-2 : (t : ℕ) → elements-lts.Need-same-length-2 (
 ) (elements-at t) elements.Post elements-Inv-loop elements-μ-loop
 elements-same-length-2 t c = search needs
 
--- src/lib.rt:184:13
 elements-returns-2 : (t : ℕ) → elements-lts.Need-returns-2 (
   find-reads.Asked,
   find-reads.Learnt,
@@ -311,7 +289,6 @@ elements-returns-2 : (t : ℕ) → elements-lts.Need-returns-2 (
 ) (elements-at t) elements.Post elements-Inv-loop elements-μ-loop
 elements-returns-2 t c = laying-fails (c .before .before .before .before .before .before .before .before .before .loop .inv) (λ e. c .before .before .before .before .before .before .if1 .left (c .before .before .before .before .before .before .before .byte-at .ensures ∙ e)) (c .before .before .before .before .element .ensures) (c .if2 .taken)
 
--- src/lib.rt:187:9
 elements-find-requires-2 : (t : ℕ) → elements-lts.Need-find-requires-2 (
   find-reads.Asked,
   find-reads.Learnt,
@@ -322,7 +299,6 @@ elements-find-requires-2 : (t : ℕ) → elements-lts.Need-find-requires-2 (
 ) (elements-at t) elements.Post elements-Inv-loop elements-μ-loop
 elements-find-requires-2 t c κs = search needs
 
--- src/lib.rt:178:5
 elements-loop-less : (t : ℕ) → elements-lts.Need-loop-less (
   find-reads.Asked,
   find-reads.Learnt,
@@ -333,7 +309,6 @@ elements-loop-less : (t : ℕ) → elements-lts.Need-loop-less (
 ) (elements-at t) elements.Post elements-Inv-loop elements-μ-loop
 elements-loop-less t c = omega (arith, c .before .before .before .before .before .element .ensures .numbered (c .before .if2 .left), c .before .if2 .left)
 
--- src/lib.rt:178:5
 elements-loop-again : (t : ℕ) → elements-lts.Need-loop-again (
   find-reads.Asked,
   find-reads.Learnt,
@@ -344,7 +319,6 @@ elements-loop-again : (t : ℕ) → elements-lts.Need-loop-again (
 ) (elements-at t) elements.Post elements-Inv-loop elements-μ-loop
 elements-loop-again t c = laying-goes-on (c .before .before .before .before .before .before .before .before .before .before .loop .inv) (λ e. c .before .before .before .before .before .before .before .if1 .left (c .before .before .before .before .before .before .before .before .byte-at .ensures ∙ e)) (c .before .before .before .before .before .element .ensures) (c .before .if2 .left) (c .find2 .ensures)
 
--- src/lib.rt:173:1
 elements-same-length-3 : (t : ℕ) → elements-lts.Need-same-length-3 (
   find-reads.Asked,
   find-reads.Learnt,
@@ -355,7 +329,6 @@ elements-same-length-3 : (t : ℕ) → elements-lts.Need-same-length-3 (
 ) (elements-at t) elements.Post elements-Inv-loop elements-μ-loop
 elements-same-length-3 t c = search needs
 
--- src/lib.rt:173:1
 elements-returns-3 : (t : ℕ) → elements-lts.Need-returns-3 (
   find-reads.Asked,
   find-reads.Learnt,

@@ -9,186 +9,142 @@ use Rattle.regrouping.proofs.differing.Lts as lts
 use Rattle.reader.proofs.field.Reads as field-reads
 use Rattle.regrouping.proofs.regroup.Reads as regroup-reads
 
--- src/lib.rt:114:9
 regroup-requires : tie.Need-regroup-requires
 regroup-requires c κs = search needs
 
--- src/lib.rt:116:36
 enum-known-answer : tie.Need-enum-known-answer
 enum-known-answer c = search needs
 
--- src/lib.rt:116:50
 field-requires : tie.Need-field-requires
 field-requires c κs = search needs
 
--- src/lib.rt:117:33
 enum-told : tie.Need-enum-told
 enum-told c = search needs
 
--- src/lib.rt:117:33
 sub-result : tie.Need-sub-result
 sub-result c = search needs
 
--- src/lib.rt:117:33
 part-result-start : tie.Need-part-result-start
 part-result-start c = search needs
 
--- src/lib.rt:117:33
 part-result-end : tie.Need-part-result-end
 part-result-end c = search needs
 
--- src/lib.rt:118:40
 enum-told-2 : tie.Need-enum-told-2
 enum-told-2 c = search needs
 
--- src/lib.rt:118:40
 sub-result-2 : tie.Need-sub-result-2
 sub-result-2 c = search needs
 
--- src/lib.rt:118:40
 part-result-start-2 : tie.Need-part-result-start-2
 part-result-start-2 c = search needs
 
--- src/lib.rt:118:40
 part-result-end-2 : tie.Need-part-result-end-2
 part-result-end-2 c = search needs
 
--- src/lib.rt:119:41
 enum-told-3 : tie.Need-enum-told-3
 enum-told-3 c = search needs
 
--- src/lib.rt:119:41
 sub-result-3 : tie.Need-sub-result-3
 sub-result-3 c = search needs
 
--- src/lib.rt:119:41
 part-result-start-3 : tie.Need-part-result-start-3
 part-result-start-3 c = search needs
 
--- src/lib.rt:119:41
 part-result-end-3 : tie.Need-part-result-end-3
 part-result-end-3 c = search needs
 
--- src/lib.rt:120:48
 enum-told-4 : tie.Need-enum-told-4
 enum-told-4 c = search needs
 
--- src/lib.rt:120:48
 sub-result-4 : tie.Need-sub-result-4
 sub-result-4 c = search needs
 
--- src/lib.rt:120:48
 part-result-start-4 : tie.Need-part-result-start-4
 part-result-start-4 c = search needs
 
--- src/lib.rt:120:48
 part-result-end-4 : tie.Need-part-result-end-4
 part-result-end-4 c = search needs
 
--- src/lib.rt:121:41
 enum-told-5 : tie.Need-enum-told-5
 enum-told-5 c = search needs
 
--- src/lib.rt:121:41
 sub-result-5 : tie.Need-sub-result-5
 sub-result-5 c = search needs
 
--- src/lib.rt:121:41
 part-result-start-5 : tie.Need-part-result-start-5
 part-result-start-5 c = search needs
 
--- src/lib.rt:121:41
 part-result-end-5 : tie.Need-part-result-end-5
 part-result-end-5 c = search needs
 
--- src/lib.rt:122:52
 enum-told-6 : tie.Need-enum-told-6
 enum-told-6 c = search needs
 
--- src/lib.rt:122:52
 sub-result-6 : tie.Need-sub-result-6
 sub-result-6 c = search needs
 
--- src/lib.rt:122:52
 part-result-start-6 : tie.Need-part-result-start-6
 part-result-start-6 c = search needs
 
--- src/lib.rt:122:52
 part-result-end-6 : tie.Need-part-result-end-6
 part-result-end-6 c = search needs
 
--- src/lib.rt:123:49
 enum-told-7 : tie.Need-enum-told-7
 enum-told-7 c = search needs
 
--- src/lib.rt:123:49
 sub-result-7 : tie.Need-sub-result-7
 sub-result-7 c = search needs
 
--- src/lib.rt:123:49
 part-result-start-7 : tie.Need-part-result-start-7
 part-result-start-7 c = search needs
 
--- src/lib.rt:123:49
 part-result-end-7 : tie.Need-part-result-end-7
 part-result-end-7 c = search needs
 
--- src/lib.rt:124:45
 enum-told-8 : tie.Need-enum-told-8
 enum-told-8 c = search needs
 
--- src/lib.rt:124:45
 sub-result-8 : tie.Need-sub-result-8
 sub-result-8 c = search needs
 
--- src/lib.rt:124:45
 part-result-start-8 : tie.Need-part-result-start-8
 part-result-start-8 c = search needs
 
--- src/lib.rt:124:45
 part-result-end-8 : tie.Need-part-result-end-8
 part-result-end-8 c = search needs
 
--- src/lib.rt:111:1
 returns : tie.Need-returns
 returns c = that-part (part-of-20 (now (c .before .before .before .before .before .before .before .before .args .first)) (now (c .before .before .before .before .before .before .before .before .args .second)) (now (c .before .before .before .before .before .before .before .before .args .list)) (c .before .before .before .before .regroup .ensures) (c .before .before .answer .given .1)) (c .field .ensures)
 
--- src/lib.rt:111:1
 returns-2 : tie.Need-returns-2
 unfolding NotTwenty
 returns-2 c = empty-part (no-part (now (c .before .before .before .before .before .before .before .args .first)) (now (c .before .before .before .before .before .before .before .args .second)) (now (c .before .before .before .before .before .before .before .args .list)) (c .before .before .before .regroup .ensures) (c .before .enum-told .given .1) tt) (record { bytes-are = refl; in-the-message = refl; at-its-place = search needs })
 
--- src/lib.rt:111:1
 returns-3 : tie.Need-returns-3
 unfolding NotTwenty
 returns-3 c = empty-part (no-part (now (c .before .before .before .before .before .before .before .args .first)) (now (c .before .before .before .before .before .before .before .args .second)) (now (c .before .before .before .before .before .before .before .args .list)) (c .before .before .before .regroup .ensures) (c .before .enum-told2 .given .1) tt) (record { bytes-are = refl; in-the-message = refl; at-its-place = search needs })
 
--- src/lib.rt:111:1
 returns-4 : tie.Need-returns-4
 unfolding NotTwenty
 returns-4 c = empty-part (no-part (now (c .before .before .before .before .before .before .before .args .first)) (now (c .before .before .before .before .before .before .before .args .second)) (now (c .before .before .before .before .before .before .before .args .list)) (c .before .before .before .regroup .ensures) (c .before .enum-told3 .given .1) tt) (record { bytes-are = refl; in-the-message = refl; at-its-place = search needs })
 
--- src/lib.rt:111:1
 returns-5 : tie.Need-returns-5
 unfolding NotTwenty
 returns-5 c = empty-part (no-part (now (c .before .before .before .before .before .before .before .args .first)) (now (c .before .before .before .before .before .before .before .args .second)) (now (c .before .before .before .before .before .before .before .args .list)) (c .before .before .before .regroup .ensures) (c .before .enum-told4 .given .1) tt) (record { bytes-are = refl; in-the-message = refl; at-its-place = search needs })
 
--- src/lib.rt:111:1
 returns-6 : tie.Need-returns-6
 unfolding NotTwenty
 returns-6 c = empty-part (no-part (now (c .before .before .before .before .before .before .before .args .first)) (now (c .before .before .before .before .before .before .before .args .second)) (now (c .before .before .before .before .before .before .before .args .list)) (c .before .before .before .regroup .ensures) (c .before .enum-told5 .given .1) tt) (record { bytes-are = refl; in-the-message = refl; at-its-place = search needs })
 
--- src/lib.rt:111:1
 returns-7 : tie.Need-returns-7
 unfolding NotTwenty
 returns-7 c = empty-part (no-part (now (c .before .before .before .before .before .before .before .args .first)) (now (c .before .before .before .before .before .before .before .args .second)) (now (c .before .before .before .before .before .before .before .args .list)) (c .before .before .before .regroup .ensures) (c .before .enum-told6 .given .1) tt) (record { bytes-are = refl; in-the-message = refl; at-its-place = search needs })
 
--- src/lib.rt:111:1
 returns-8 : tie.Need-returns-8
 unfolding NotTwenty
 returns-8 c = empty-part (no-part (now (c .before .before .before .before .before .before .before .args .first)) (now (c .before .before .before .before .before .before .before .args .second)) (now (c .before .before .before .before .before .before .before .args .list)) (c .before .before .before .regroup .ensures) (c .before .enum-told7 .given .1) tt) (record { bytes-are = refl; in-the-message = refl; at-its-place = search needs })
 
--- src/lib.rt:111:1
 returns-9 : tie.Need-returns-9
 unfolding NotTwenty
 returns-9 c = empty-part (no-part (now (c .before .before .before .before .before .before .before .args .first)) (now (c .before .before .before .before .before .before .before .args .second)) (now (c .before .before .before .before .before .before .before .args .list)) (c .before .before .before .regroup .ensures) (c .before .enum-told8 .given .1) tt) (record { bytes-are = refl; in-the-message = refl; at-its-place = search needs })

@@ -9,39 +9,30 @@ use Rattle.lists.proofs.ordinals.Reads as ordinals-reads
 use Rattle.moves.proofs.pairing.Reads as pairing-reads
 use Rattle.regrouping.proofs.paired_as.Reads as paired-as-reads
 
--- src/lib.rt:43:9
 returns : tie.Need-returns
 returns c = λ root1 root2 i j. numbers-differ (now (c .before .before .before .before .before .before .before .before .args .list)) i j (c .if1 .taken)
 
--- src/lib.rt:45:9
 ordinals-requires : tie.Need-ordinals-requires
 ordinals-requires c κs = search needs
 
--- src/lib.rt:47:33
 enum-told : tie.Need-enum-told
 enum-told c = search needs
 
--- src/lib.rt:48:26
 enum-known-found : tie.Need-enum-known-found
 enum-known-found c = search needs
 
--- src/lib.rt:50:17
 returns-2 : tie.Need-returns-2
 returns-2 c = λ root1 root2 i j. wrong-count (now (c .before .before .before .before .before .before .before .before .before .before .before .before .before .args .list)) i j (c .before .before .before .before .before .if1 .left) (c .before .before .before .before .ordinals .ensures) (c .before .before .found .given .1) (c .if2 .taken)
 
--- src/lib.rt:52:23
 pairing-requires : tie.Need-pairing-requires
 pairing-requires c κs = search needs
 
--- src/lib.rt:52:13
 paired-as-requires : tie.Need-paired-as-requires
 paired-as-requires c κs = search needs
 
--- src/lib.rt:29:1
 returns-3 : tie.Need-returns-3
 returns-3 c = λ root1 root2 i j. not-a-list (now (c .before .before .before .before .before .before .before .before .before .before .before .args .list)) i j (c .before .before .before .if1 .left) (c .before .before .ordinals .ensures) (c .enum-told .given .1)
 
--- src/lib.rt:29:1
 returns-4 : tie.Need-returns-4
 returns-4 c = λ root1 root2 i j. the-pairs (now (c .before .before .before .before .before .before .before .before .before .before .before .before .before .before .before .args .list)) i j (c .before .before .before .before .before .before .before .if1 .left) (c .before .before .before .before .before .before .ordinals .ensures) (c .paired-as .result) (c .before .pairing .result) (c .before .before .before .before .found .given .1) (c .before .before .if2 .left) (c .paired-as .ensures) (λ ks e l. c .before .pairing .ensures root1 root2 ks i (same-order j (c .before .before .before .before .before .before .before .if1 .left)) e l)
 

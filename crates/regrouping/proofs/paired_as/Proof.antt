@@ -7,38 +7,30 @@ use Rattle.regrouping.proofs.paired_as.Tie as tie
 use Rattle.regrouping.proofs.paired_as.Reads as reads
 use Rattle.regrouping.proofs.paired_as.Lts as lts
 
--- src/lib.rt:21:29
 enum-told : tie.Need-enum-told
 enum-told c = search needs
 
--- src/lib.rt:22:35
 enum-known-paired : tie.Need-enum-known-paired
 enum-known-paired c = search needs
 
--- src/lib.rt:23:31
 enum-known-paired-2 : tie.Need-enum-known-paired-2
 enum-known-paired-2 c = search needs
 
--- src/lib.rt:24:32
 enum-known-paired-3 : tie.Need-enum-known-paired-3
 enum-known-paired-3 c = search needs
 
--- src/lib.rt:17:1
 returns : tie.Need-returns
 unfolding regrouping-of answer-of
 returns c = sym (ap answer-of (c .enum-told .given .1))
 
--- src/lib.rt:17:1
 returns-2 : tie.Need-returns-2
 unfolding regrouping-of answer-of
 returns-2 c = sym (ap answer-of (c .before .paired .given .1))
 
--- src/lib.rt:17:1
 returns-3 : tie.Need-returns-3
 unfolding regrouping-of answer-of
 returns-3 c = sym (ap answer-of (c .before .paired2 .given .1))
 
--- src/lib.rt:17:1
 returns-4 : tie.Need-returns-4
 unfolding regrouping-of answer-of
 returns-4 c = sym (ap answer-of (c .before .paired3 .given .1))

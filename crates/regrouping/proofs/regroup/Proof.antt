@@ -11,43 +11,33 @@ use Rattle.regrouping.proofs.regroup.Lts as lts
 use Rattle.stages.proofs.outcome.Reads as outcome-reads
 use Rattle.regrouping.proofs.with_second.Reads as with-second-reads
 
--- src/lib.rt:78:40
 slice-aggregate-outcome : tie.Need-slice-aggregate-outcome
 slice-aggregate-outcome c = search needs
 
--- src/lib.rt:78:52
 slice-aggregate-outcome-2 : tie.Need-slice-aggregate-outcome-2
 slice-aggregate-outcome-2 c = search needs
 
--- src/lib.rt:78:9
 outcome-requires : tie.Need-outcome-requires
 outcome-requires c κs = search needs
 
--- src/lib.rt:80:26
 enum-known-found : tie.Need-enum-known-found
 enum-known-found c = search needs
 
--- src/lib.rt:81:40
 enum-known-found-2 : tie.Need-enum-known-found-2
 enum-known-found-2 c = search needs
 
--- src/lib.rt:81:83
 slice-aggregate-with-second : tie.Need-slice-aggregate-with-second
 slice-aggregate-with-second c = search needs
 
--- src/lib.rt:81:91
 slice-aggregate-with-second-2 : tie.Need-slice-aggregate-with-second-2
 slice-aggregate-with-second-2 c = search needs
 
--- src/lib.rt:81:64
 with-second-requires : tie.Need-with-second-requires
 with-second-requires c κs = search needs
 
--- src/lib.rt:73:1
 returns : tie.Need-returns
 returns c = first-refused (now (c .before .before .before .before .before .before .before .before .before .before .before .args .second)) (now (c .before .before .before .before .before .before .before .before .before .before .before .args .list)) (c .before .before .before .before .before .outcome .ensures (omega (arith, length-replicate {A = ℕ} 54615 0)) (omega (arith, length-replicate {A = ℕ} 208 0))) (c .before .found .given .1)
 
--- src/lib.rt:73:1
 returns-2 : tie.Need-returns-2
 returns-2 c = first-accepted (now (c .before .before .before .before .before .before .before .before .before .before .before .before .before .before .args .second)) (now (c .before .before .before .before .before .before .before .before .before .before .before .before .before .before .args .list)) (c .with-second .result) (c .before .before .before .before .before .before .before .before .outcome .ensures (omega (arith, length-replicate {A = ℕ} 54615 0)) (omega (arith, length-replicate {A = ℕ} 208 0))) (c .before .before .before .before .found2 .given .1) (λ root1 i. c .with-second .ensures root1 i)
 

@@ -11,43 +11,33 @@ use Rattle.regrouping.proofs.with_second.Lts as lts
 use Rattle.stages.proofs.outcome.Reads as outcome-reads
 use Rattle.regrouping.proofs.listed.Reads as listed-reads
 
--- src/lib.rt:63:41
 slice-aggregate-outcome : tie.Need-slice-aggregate-outcome
 slice-aggregate-outcome c = search needs
 
--- src/lib.rt:63:53
 slice-aggregate-outcome-2 : tie.Need-slice-aggregate-outcome-2
 slice-aggregate-outcome-2 c = search needs
 
--- src/lib.rt:63:9
 outcome-requires : tie.Need-outcome-requires
 outcome-requires c κs = search needs
 
--- src/lib.rt:65:26
 enum-known-found : tie.Need-enum-known-found
 enum-known-found c = search needs
 
--- src/lib.rt:66:40
 enum-known-found-2 : tie.Need-enum-known-found-2
 enum-known-found-2 c = search needs
 
--- src/lib.rt:67:57
 slice-aggregate-listed : tie.Need-slice-aggregate-listed
 slice-aggregate-listed c = search needs
 
--- src/lib.rt:67:65
 slice-aggregate-listed-2 : tie.Need-slice-aggregate-listed-2
 slice-aggregate-listed-2 c = search needs
 
--- src/lib.rt:67:13
 listed-requires : tie.Need-listed-requires
 listed-requires c κs = search needs
 
--- src/lib.rt:58:1
 returns : tie.Need-returns
 returns c = λ root1 i. second-refused root1 (now (c .before .before .before .before .before .before .before .before .before .before .before .before .before .args .list)) (c .before .before .before .before .before .outcome .ensures (omega (arith, length-replicate {A = ℕ} 54615 0)) (omega (arith, length-replicate {A = ℕ} 208 0))) (c .before .found .given .1)
 
--- src/lib.rt:58:1
 returns-2 : tie.Need-returns-2
 returns-2 c = λ root1 i. second-accepted root1 (now (c .before .before .before .before .before .before .before .before .before .before .before .before .before .before .before .before .args .list)) (c .listed .result) (c .before .before .before .before .before .before .before .before .outcome .ensures (omega (arith, length-replicate {A = ℕ} 54615 0)) (omega (arith, length-replicate {A = ℕ} 208 0))) (c .before .before .before .before .found2 .given .1) (λ root2 j. c .listed .ensures root1 root2 i j)
 

@@ -26,83 +26,63 @@ Inv-loop s tree order many table₀ k₀ table k =
 abbrev μ-loop : tie.MeasureT-loop
 μ-loop s tree order many table₀ k₀ table k = many - k
 
--- src/lib.rt:120:5
 loop-holds : tie.Need-loop-holds Inv-loop μ-loop
 loop-holds c = (refl, λ root w o e few h long. start o e h)
 
--- src/lib.rt:122:13
 same-length : tie.Need-same-length Inv-loop μ-loop
 same-length c = c .before .before .loop .inv .0
 
--- src/lib.rt:122:13
 returns : tie.Need-returns Inv-loop μ-loop
 returns c = λ w root o e few h long. absurd (omega arith)
 
--- src/lib.rt:124:44
 mul-number : tie.Need-mul-number Inv-loop μ-loop
 mul-number c = search needs
 
--- src/lib.rt:124:39
 add-number : tie.Need-add-number Inv-loop μ-loop
 add-number c = search needs
 
--- src/lib.rt:124:13
 number-requires : tie.Need-number-requires Inv-loop μ-loop
 number-requires c κs = search needs
 
--- src/lib.rt:125:46
 mul-number-2 : tie.Need-mul-number-2 Inv-loop μ-loop
 mul-number-2 c = search needs
 
--- src/lib.rt:125:41
 add-number-2 : tie.Need-add-number-2 Inv-loop μ-loop
 add-number-2 c = search needs
 
--- src/lib.rt:125:13
 number-requires-2 : tie.Need-number-requires-2 Inv-loop μ-loop
 number-requires-2 c κs = search needs
 
--- src/lib.rt:126:47
 mul-number-3 : tie.Need-mul-number-3 Inv-loop μ-loop
 mul-number-3 c = search needs
 
--- src/lib.rt:126:42
 add-number-3 : tie.Need-add-number-3 Inv-loop μ-loop
 add-number-3 c = search needs
 
--- src/lib.rt:126:13
 number-requires-3 : tie.Need-number-requires-3 Inv-loop μ-loop
 number-requires-3 c κs = search needs
 
--- src/lib.rt:127:20
 mul-put : tie.Need-mul-put Inv-loop μ-loop
 mul-put c = search needs
 
--- src/lib.rt:127:28
 numbers-of-requires : tie.Need-numbers-of-requires Inv-loop μ-loop
 numbers-of-requires c κs = search needs
 
--- src/lib.rt:127:9
 put-requires : tie.Need-put-requires Inv-loop μ-loop
 put-requires c κs = search needs
 
--- src/lib.rt:128:9
 add-k : tie.Need-add-k Inv-loop μ-loop
 add-k c = search needs
 
--- src/lib.rt:120:5
 loop-less : tie.Need-loop-less Inv-loop μ-loop
 loop-less c = search needs
 
--- src/lib.rt:120:5
 loop-again : tie.Need-loop-again Inv-loop μ-loop
 loop-again c = (c .before .before .put .kept .0 ∙ c .before .before .before .before .before .before .before .before .before .before .loop .inv .0, λ root w o e few h long. one-filled (c .before .before .before .before .before .before .before .before .before .before .loop .inv .1 root w o e few h long) (c .before .before .before .before .before .before .before .before .before .loop-test .taken) (c .before .before .before .before .before .before .before .number .ensures) (c .before .before .before .before .before .before .number2 .ensures) (c .before .before .before .before .before .number3 .ensures) (c .before .before .before .numbers-of .ensures w) (c .before .before .put .ensures (omega (arith, c .before .before .before .before .before .before .before .before .before .before .loop .inv .0))))
 
--- src/lib.rt:116:1
 same-length-2 : tie.Need-same-length-2 Inv-loop μ-loop
 same-length-2 c = c .before .loop .inv .0
 
--- src/lib.rt:116:1
 returns-2 : tie.Need-returns-2 Inv-loop μ-loop
 returns-2 c = λ w root o e few h long. all-filled (c .before .loop .inv .1 root w o e few h long) (c .loop-test .left)
 

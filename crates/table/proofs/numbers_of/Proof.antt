@@ -10,23 +10,18 @@ use Rattle.table.proofs.row.Reads as row-reads
 use Rattle.table.proofs.spans_of.Reads as spans-of-reads
 use Rattle.tree.proofs.cell.Reads as cell-reads
 
--- src/lib.rt:110:9
 spans-of-requires : tie.Need-spans-of-requires
 spans-of-requires c κs = search needs
 
--- src/lib.rt:111:9
 amount-requires : tie.Need-amount-requires
 amount-requires c κs = search needs
 
--- src/lib.rt:112:28
 cell-requires : tie.Need-cell-requires
 cell-requires c κs = search needs
 
--- src/lib.rt:112:5
 row-requires : tie.Need-row-requires
 row-requires c κs = search needs
 
--- src/lib.rt:107:1
 returns : tie.Need-returns
 returns c = λ w p m n l b f e. the-row w (c .before .before .before .spans-of .ensures p m n l b) f e (c .before .before .amount .ensures (p .own) m l (f .amount)) (at-cell (entry-of l) (c .before .cell .ensures)) (own-inside l (c .before .cell .ensures)) (c .row .ensures)
 

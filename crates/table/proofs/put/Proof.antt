@@ -17,59 +17,45 @@ Inv-loop table₀ at numbers k₀ table k = (k ≤ 16) × (length numbers ≡ 16
 abbrev μ-loop : tie.MeasureT-loop
 μ-loop table₀ at numbers k₀ table k = 16 - k
 
--- src/lib.rt:92:9
 returns : tie.Need-returns Inv-loop μ-loop
 returns c = λ h. absurd (omega arith)
 
--- src/lib.rt:94:8
 sub-if2 : tie.Need-sub-if2 Inv-loop μ-loop
 sub-if2 c = search needs
 
--- src/lib.rt:95:9
 returns-2 : tie.Need-returns-2 Inv-loop μ-loop
 returns-2 c = λ h. absurd (omega arith)
 
--- src/lib.rt:98:5
 loop-holds : tie.Need-loop-holds Inv-loop μ-loop
 loop-holds c = (search needs, search needs, search needs, paste-zero (now (c .before .before .args .table)) (c .before .before .args .at) (c .before .before .args .t3))
 
--- src/lib.rt:99:25
 mul-table : tie.Need-mul-table Inv-loop μ-loop
 mul-table c = search needs
 
--- src/lib.rt:99:25
 array-read-table : tie.Need-array-read-table Inv-loop μ-loop
 array-read-table c = search needs
 
--- src/lib.rt:99:15
 add-table : tie.Need-add-table Inv-loop μ-loop
 add-table c = search needs
 
--- src/lib.rt:99:9
 mul-table-2 : tie.Need-mul-table-2 Inv-loop μ-loop
 mul-table-2 c = search needs
 
--- src/lib.rt:99:9
 slice-write-table : tie.Need-slice-write-table Inv-loop μ-loop
 slice-write-table c = omega (arith, pasted-length (now (c .before .before .before .before .args .table)) (c .before .before .before .before .args .at) (c .before .before .before .before .args .t3) (c .before .loop .k) (c .before .loop .inv .3) (omega arith) (omega arith))
 
--- src/lib.rt:100:9
 add-k : tie.Need-add-k Inv-loop μ-loop
 add-k c = search needs
 
--- src/lib.rt:98:5
 loop-less : tie.Need-loop-less Inv-loop μ-loop
 loop-less c = search needs
 
--- src/lib.rt:98:5
 loop-again : tie.Need-loop-again Inv-loop μ-loop
 loop-again c = (search needs, search needs, search needs, pasted (now (c .before .before .before .before .args .table)) (c .before .before .before .before .args .at) (c .before .before .before .before .args .t3) (c .before .loop .k) (c .before .loop .inv .3) (omega arith) (omega arith))
 
--- src/lib.rt:88:1
 same-length : tie.Need-same-length Inv-loop μ-loop
 same-length c = pasted-length (now (c .before .before .before .before .args .table)) (c .before .before .before .before .args .at) (c .before .before .before .before .args .t3) (c .before .loop .k) (c .before .loop .inv .3) (omega arith) (omega arith)
 
--- src/lib.rt:88:1
 returns-3 : tie.Need-returns-3 Inv-loop μ-loop
 returns-3 c = λ h. pasted-all (now (c .before .before .before .before .args .table)) (c .before .before .before .before .args .at) (c .before .before .before .before .args .t3) (c .before .loop .k) (omega arith) (c .before .loop .inv .3)
 

@@ -6,31 +6,24 @@ use Rattle.table.proofs.span_of.Reads as reads
 use Rattle.table.proofs.span_of.Lts as lts
 use Rattle.tree.proofs.cell.Reads as cell-reads
 
--- src/lib.rt:37:19
 enum-known-found : tie.Need-enum-known-found
 enum-known-found c = search needs
 
--- src/lib.rt:38:9
 enum-told : tie.Need-enum-told
 enum-told c = search needs
 
--- src/lib.rt:38:9
 returns : tie.Need-returns
 returns c = λ s o h. nothing h (c .enum-told .given .1)
 
--- src/lib.rt:40:9
 cell-requires : tie.Need-cell-requires
 cell-requires c κs = search needs
 
--- src/lib.rt:41:9
 cell-requires-2 : tie.Need-cell-requires-2
 cell-requires-2 c κs = search needs
 
--- src/lib.rt:43:9
 returns-2 : tie.Need-returns-2
 returns-2 c = λ s o h. never-ends-first h (c .before .before .before .before .found .given .1) (c .before .before .cell .ensures) (c .before .cell2 .ensures) (c .if1 .taken)
 
--- src/lib.rt:34:1
 returns-3 : tie.Need-returns-3
 returns-3 c = λ s o h. held h (c .before .before .before .before .found .given .1) (c .before .before .cell .ensures) (c .before .cell2 .ensures)
 

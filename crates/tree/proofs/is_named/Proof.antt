@@ -9,27 +9,21 @@ use Rattle.tree.proofs.is_named.Lts as lts
 use Rattle.tree.proofs.cell.Reads as cell-reads
 use Rattle.tree.proofs.is_text.Reads as is-text-reads
 
--- src/lib.rt:49:9
 cell-requires : tie.Need-cell-requires
 cell-requires c κs = search needs
 
--- src/lib.rt:50:9
 cell-requires-2 : tie.Need-cell-requires-2
 cell-requires-2 c κs = search needs
 
--- src/lib.rt:52:9
 returns : tie.Need-returns
 returns c = λ h next e. absurd (omega (arith, at-cell e (c .before .before .cell .ensures), name-end-cell e (c .before .cell2 .ensures)))
 
--- src/lib.rt:54:16
 add-is-text : tie.Need-add-is-text
 add-is-text c = search needs
 
--- src/lib.rt:54:5
 is-text-requires : tie.Need-is-text-requires
 is-text-requires c κs = search needs
 
--- src/lib.rt:46:1
 returns-2 : tie.Need-returns-2
 returns-2 c = λ h next e. named e (now (c .before .before .before .before .before .before .before .args .name)) (c .before .before .before .cell .ensures) (c .before .before .cell2 .ensures) (c .is-text .ensures)
 

@@ -6,27 +6,21 @@ use Rattle.tree.proofs.is_text.Reads as reads
 use Rattle.tree.proofs.is_text.Lts as lts
 use Rattle.texts.proofs.same.Reads as same-reads
 
--- src/lib.rt:37:9
 returns : tie.Need-returns
 returns c = λ f g. absurd (omega arith)
 
--- src/lib.rt:40:9
 returns-2 : tie.Need-returns-2
 returns-2 c = λ f g. absurd (omega arith)
 
--- src/lib.rt:42:17
 part-same-start : tie.Need-part-same-start
 part-same-start c = search needs
 
--- src/lib.rt:42:17
 part-same-end : tie.Need-part-same-end
 part-same-end c = search needs
 
--- src/lib.rt:42:5
 same-requires : tie.Need-same-requires
 same-requires c κs = search needs
 
--- src/lib.rt:33:1
 returns-3 : tie.Need-returns-3
 returns-3 c = search needs
 

@@ -8,23 +8,18 @@ use Rattle.tree.proofs.number.Reads as reads
 use Rattle.tree.proofs.number.Lts as lts
 use Rattle.tree.proofs.wide.Reads as wide-reads
 
--- src/lib.rt:21:9
 returns : tie.Need-returns
 returns c = sym (List·getD-eq-default (now (c .before .before .args .buffer)) 0 (c .if1 .taken))
 
--- src/lib.rt:23:10
 mul-wide : tie.Need-mul-wide
 mul-wide c = search needs
 
--- src/lib.rt:23:10
 shared-slice-read-wide : tie.Need-shared-slice-read-wide
 shared-slice-read-wide c = search needs
 
--- src/lib.rt:23:5
 wide-requires : tie.Need-wide-requires
 wide-requires c κs = search needs
 
--- src/lib.rt:17:1
 returns-2 : tie.Need-returns-2
 returns-2 c = search needs
 

@@ -7,42 +7,33 @@ use Rattle.usage.proofs.in_both.Lts as lts
 use Rattle.routes.proofs.child.Reads as child-reads
 use Rattle.tree.proofs.cell.Reads as cell-reads
 
--- src/lib.rt:18:9
 child-requires : tie.Need-child-requires
 child-requires c κs = search needs
 
--- src/lib.rt:19:19
 enum-known-mine : tie.Need-enum-known-mine
 enum-known-mine c = search needs
 
--- src/lib.rt:20:9
 enum-told : tie.Need-enum-told
 enum-told c = search needs
 
--- src/lib.rt:20:9
 returns : tie.Need-returns
 returns c = λ p m n o b x y. not-own (c .before .before .before .before .before .before .args .row) p x y (c .before .before .child .ensures (p .own) m o) (c .enum-told .given .1)
 
--- src/lib.rt:22:9
 child-requires-2 : tie.Need-child-requires-2
 child-requires-2 c κs = search needs
 
 enum-told-2 : tie.Need-enum-told-2
 enum-told-2 c = search needs
 
--- src/lib.rt:24:9
 enum-told-3 : tie.Need-enum-told-3
 enum-told-3 c = search needs
 
--- src/lib.rt:24:9
 returns-2 : tie.Need-returns-2
 returns-2 c = λ p m n o b x y. not-block (c .before .before .before .before .before .before .before .before .before .before .args .row) p x y (c .before .before .before .before .before .before .child .ensures (p .own) m o) (c .before .before .before .before .mine .given .1) (c .before .before .child2 .ensures (p .block) n b) (c .enum-told3 .given .1)
 
--- src/lib.rt:28:17
 cell-requires : tie.Need-cell-requires
 cell-requires c κs = search needs
 
--- src/lib.rt:15:1
 returns-3 : tie.Need-returns-3
 returns-3 c = λ p m n o b x y. both (c .before .before .before .before .before .before .before .before .before .before .before .args .row) p x y (c .before .before .before .before .before .before .before .child .ensures (p .own) m o) (c .before .before .before .before .before .mine .given .1) (c .before .before .before .child2 .ensures (p .block) n b) (c .before .enum-told2 .given .1) (c .cell .ensures)
 

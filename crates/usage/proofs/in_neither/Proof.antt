@@ -10,19 +10,15 @@ use Rattle.usage.proofs.in_neither.Lts as lts
 use Rattle.routes.proofs.child.Reads as child-reads
 use Rattle.tree.proofs.cell.Reads as cell-reads
 
--- src/lib.rt:36:43
 slice-aggregate-child : tie.Need-slice-aggregate-child
 slice-aggregate-child c = search needs
 
--- src/lib.rt:36:9
 child-requires : tie.Need-child-requires
 child-requires c κs = search needs
 
--- src/lib.rt:38:9
 enum-told : tie.Need-enum-told
 enum-told c = search needs
 
--- src/lib.rt:38:9
 returns : tie.Need-returns
 unfolding rows row-of leaf group group-under bytes
 returns c = λ p m n o b. own-there 16 p refl refl (c .before .before .child .ensures (p .own) m o) (c .enum-told .given .1)
@@ -30,19 +26,15 @@ returns c = λ p m n o b. own-there 16 p refl refl (c .before .before .child .en
 enum-told-2 : tie.Need-enum-told-2
 enum-told-2 c = search needs
 
--- src/lib.rt:40:47
 slice-aggregate-child-2 : tie.Need-slice-aggregate-child-2
 slice-aggregate-child-2 c = search needs
 
--- src/lib.rt:40:9
 child-requires-2 : tie.Need-child-requires-2
 child-requires-2 c κs = search needs
 
--- src/lib.rt:42:9
 enum-told-3 : tie.Need-enum-told-3
 enum-told-3 c = search needs
 
--- src/lib.rt:42:9
 returns-2 : tie.Need-returns-2
 unfolding rows row-of leaf group group-under bytes
 returns-2 c = λ p m n o b. block-there 16 p refl refl (c .before .before .before .before .before .before .child .ensures (p .own) m o) (c .before .before .before .before .enum-told2 .given .1) (c .before .before .child2 .ensures (p .block) n b) (c .enum-told3 .given .1)
@@ -50,11 +42,9 @@ returns-2 c = λ p m n o b. block-there 16 p refl refl (c .before .before .befor
 enum-told-4 : tie.Need-enum-told-4
 enum-told-4 c = search needs
 
--- src/lib.rt:45:17
 cell-requires : tie.Need-cell-requires
 cell-requires c κs = search needs
 
--- src/lib.rt:33:1
 returns-3 : tie.Need-returns-3
 unfolding rows row-of leaf group group-under bytes
 returns-3 c = λ p m n o b. neither p refl refl (c .before .before .before .before .before .before .before .child .ensures (p .own) m o) (c .before .before .before .before .before .enum-told2 .given .1) (c .before .before .before .child2 .ensures (p .block) n b) (c .before .enum-told4 .given .1) o (c .cell .ensures)

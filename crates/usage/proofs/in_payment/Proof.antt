@@ -11,71 +11,57 @@ use Rattle.usage.proofs.in_payment.Lts as lts
 use Rattle.usage.proofs.in_both.Reads as in-both-reads
 use Rattle.usage.proofs.in_neither.Reads as in-neither-reads
 
--- src/lib.rt:53:50
 slice-aggregate-in-both : tie.Need-slice-aggregate-in-both
 slice-aggregate-in-both c = search needs
 
--- src/lib.rt:53:9
 in-both-requires : tie.Need-in-both-requires
 in-both-requires c κs = search needs
 
 enum-told : tie.Need-enum-told
 enum-told c = search needs
 
--- src/lib.rt:55:9
 enum-told-2 : tie.Need-enum-told-2
 enum-told-2 c = search needs
 
--- src/lib.rt:55:9
 returns : tie.Need-returns
 unfolding refusal-in-payment rows row-of leaf group group-under bytes
 returns c = λ p m n o b. found-first _ _ _ (c .before .before .in-both .ensures p m n o b refl refl) (c .enum-told2 .given .1)
 
--- src/lib.rt:57:9
 in-neither-requires : tie.Need-in-neither-requires
 in-neither-requires c κs = search needs
 
 enum-told-3 : tie.Need-enum-told-3
 enum-told-3 c = search needs
 
--- src/lib.rt:59:9
 enum-told-4 : tie.Need-enum-told-4
 enum-told-4 c = search needs
 
--- src/lib.rt:59:9
 returns-2 : tie.Need-returns-2
 unfolding refusal-in-payment rows row-of leaf group group-under bytes
 returns-2 c = λ p m n o b. found-later _ _ _ _ (c .before .before .before .before .before .in-both .ensures p m n o b refl refl) (c .before .before .before .enum-told .given .1) (found-first _ _ _ (c .before .before .in-neither .ensures p m n o b) (c .enum-told4 .given .1))
 
--- src/lib.rt:61:52
 slice-aggregate-in-both-2 : tie.Need-slice-aggregate-in-both-2
 slice-aggregate-in-both-2 c = search needs
 
--- src/lib.rt:61:9
 in-both-requires-2 : tie.Need-in-both-requires-2
 in-both-requires-2 c κs = search needs
 
 enum-told-5 : tie.Need-enum-told-5
 enum-told-5 c = search needs
 
--- src/lib.rt:63:9
 enum-told-6 : tie.Need-enum-told-6
 enum-told-6 c = search needs
 
--- src/lib.rt:63:9
 returns-3 : tie.Need-returns-3
 unfolding refusal-in-payment rows row-of leaf group group-under bytes
 returns-3 c = λ p m n o b. found-later _ _ _ _ (c .before .before .before .before .before .before .before .before .before .in-both .ensures p m n o b refl refl) (c .before .before .before .before .before .before .before .enum-told .given .1) (found-later _ _ _ _ (c .before .before .before .before .before .before .in-neither .ensures p m n o b) (c .before .before .before .before .enum-told3 .given .1) (found-first _ _ _ (c .before .before .in-both2 .ensures p m n o b refl refl) (c .enum-told6 .given .1)))
 
--- src/lib.rt:65:38
 slice-aggregate-in-both-3 : tie.Need-slice-aggregate-in-both-3
 slice-aggregate-in-both-3 c = search needs
 
--- src/lib.rt:65:5
 in-both-requires-3 : tie.Need-in-both-requires-3
 in-both-requires-3 c κs = search needs
 
--- src/lib.rt:50:1
 returns-4 : tie.Need-returns-4
 unfolding refusal-in-payment rows row-of leaf group group-under bytes
 returns-4 c = λ p m n o b. found-later _ _ _ _ (c .before .before .before .before .before .before .before .before .before .before .before .in-both .ensures p m n o b refl refl) (c .before .before .before .before .before .before .before .before .before .enum-told .given .1) (found-later _ _ _ _ (c .before .before .before .before .before .before .before .before .in-neither .ensures p m n o b) (c .before .before .before .before .before .before .enum-told3 .given .1) (found-later _ _ _ _ (c .before .before .before .before .in-both2 .ensures p m n o b refl refl) (c .before .before .enum-told5 .given .1) (c .in-both3 .ensures p m n o b refl refl)))

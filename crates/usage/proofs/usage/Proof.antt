@@ -21,66 +21,51 @@ Inv-loop s tree order many k₀ k = (root : Element) → Ordered s tree order ro
 abbrev μ-loop : tie.MeasureT-loop
 μ-loop s tree order many k₀ k = many - k
 
--- src/lib.rt:76:5
 loop-holds : tie.Need-loop-holds Inv-loop μ-loop
 loop-holds c = λ root o e. at-start (c .before .before .before .args .many) o e
 
--- src/lib.rt:78:13
 returns : tie.Need-returns Inv-loop μ-loop
 returns c = λ root o e f. absurd (omega arith)
 
--- src/lib.rt:80:44
 mul-number : tie.Need-mul-number Inv-loop μ-loop
 mul-number c = search needs
 
--- src/lib.rt:80:39
 add-number : tie.Need-add-number Inv-loop μ-loop
 add-number c = search needs
 
--- src/lib.rt:80:13
 number-requires : tie.Need-number-requires Inv-loop μ-loop
 number-requires c κs = search needs
 
--- src/lib.rt:81:46
 mul-number-2 : tie.Need-mul-number-2 Inv-loop μ-loop
 mul-number-2 c = search needs
 
--- src/lib.rt:81:41
 add-number-2 : tie.Need-add-number-2 Inv-loop μ-loop
 add-number-2 c = search needs
 
--- src/lib.rt:81:13
 number-requires-2 : tie.Need-number-requires-2 Inv-loop μ-loop
 number-requires-2 c κs = search needs
 
--- src/lib.rt:82:13
 in-payment-requires : tie.Need-in-payment-requires Inv-loop μ-loop
 in-payment-requires c κs = search needs
 
 enum-told : tie.Need-enum-told Inv-loop μ-loop
 enum-told c = search needs
 
--- src/lib.rt:84:13
 enum-told-2 : tie.Need-enum-told-2 Inv-loop μ-loop
 enum-told-2 c = search needs
 
--- src/lib.rt:84:13
 returns-2 : tie.Need-returns-2 Inv-loop μ-loop
 returns-2 c = λ root o e f. refused (c .before .before .before .before .before .before .before .loop .inv root o e) (c .before .before .before .before .number .ensures) (c .before .before .before .number2 .ensures) (c .before .before .before .before .before .before .loop-test .taken) (c .before .before .in-payment .ensures) (c .enum-told2 .given .1)
 
--- src/lib.rt:86:9
 add-k : tie.Need-add-k Inv-loop μ-loop
 add-k c = search needs
 
--- src/lib.rt:76:5
 loop-less : tie.Need-loop-less Inv-loop μ-loop
 loop-less c = search needs
 
--- src/lib.rt:76:5
 loop-again : tie.Need-loop-again Inv-loop μ-loop
 loop-again c = λ root o e. passed (c .before .before .before .before .before .before .before .loop .inv root o e) (c .before .before .before .before .number .ensures) (c .before .before .before .number2 .ensures) (c .before .before .before .before .before .before .loop-test .taken) (c .before .before .in-payment .ensures) (c .enum-told .given .1)
 
--- src/lib.rt:72:1
 returns-3 : tie.Need-returns-3 Inv-loop μ-loop
 returns-3 c = λ root o e f. none-left (c .before .loop .inv root o e) (c .loop-test .left)
 

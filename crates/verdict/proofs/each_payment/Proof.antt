@@ -12,27 +12,21 @@ Inv-loop message table payments i₀ i = i ≤ payments
 abbrev μ-loop : tie.MeasureT-loop
 μ-loop message table payments i₀ i = payments - i
 
--- src/main.rt:62:5
 loop-holds : tie.Need-loop-holds Inv-loop μ-loop
 loop-holds c = search needs
 
--- src/main.rt:63:9
 payment-requires : tie.Need-payment-requires Inv-loop μ-loop
 payment-requires c κs = search needs
 
--- src/main.rt:64:9
 add-i : tie.Need-add-i Inv-loop μ-loop
 add-i c = search needs
 
--- src/main.rt:62:5
 loop-less : tie.Need-loop-less Inv-loop μ-loop
 loop-less c = search needs
 
--- src/main.rt:62:5
 loop-again : tie.Need-loop-again Inv-loop μ-loop
 loop-again c = search needs
 
--- src/main.rt:60:1
 returns : tie.Need-returns Inv-loop μ-loop
 returns c = search needs
 
