@@ -13,6 +13,7 @@ use Rattle.paper.specs.Form.{Head}
 use Rattle.paper.specs.Rows.{Place, Row}
 use Rattle.paper.specs.Values.{lies-from, allowed}
 use Rattle.paper.specs.Refusals.{Refusal, refuse, first-not, ends, only-white, longest-of, leaf-refusal}
+use Rattle.paper.proofs.Laws.{number-of, offset-of}
 use Rattle.texts.proofs.Laws.{none-first, one-first}
 use Rattle.tree.specs.Laid.{between, Entry}
 use Rattle.values.specs.Judgements.{told, Judges}
@@ -58,14 +59,6 @@ unfolding leaf-refusal
 leaf-any parent r h c w n = rw (any-currency parent (r .row) (h .currency) c w n)
 
 -- refusal 7 is at the first character that is not in the set
-number-of : Option Refusal → ℕ
-number-of none = 0
-number-of (some r) = r .number
-
-offset-of : Option Refusal → ℕ
-offset-of none = 0
-offset-of (some r) = r .offset
-
 seven-first : (parent : ℕ) (r : Row) (h : Head) (w : List ℕ) (row k : ℕ) → leaf-refusal parent r h w ≡ refuse 7 row (h .start + k) → k ≡ first-not value-character w
 unfolding leaf-refusal refuse number-of offset-of
 seven-first parent r h w row k e =

@@ -8,12 +8,9 @@ use lib.Dec.{eqb}
 use Rattle.paper.specs.Bytes.{if_then_else_, same}
 use Rattle.paper.specs.Values.{Country, of-a-country}
 use Rattle.paper.specs.Refusals.{among-texts}
+use Rattle.paper.proofs.Laws.{or-false}
 use Rattle.countries.specs.Letters.{letters-of}
 use Rattle.texts.proofs.Laws.{same-swap}
-
-or-false : (b : Bool) → (b || false) ≡ b
-or-false true = refl
-or-false false = refl
 
 -- a country by its letters and the whole length
 pub of-a-country-is : (cs : List Country) (w : List ℕ) → of-a-country cs w ≡ among-texts (take 2 w) (letters-of cs (length w))

@@ -16,6 +16,7 @@ use Rattle.paper.specs.declared.Fault.{Fault}
 use Rattle.paper.specs.declared.Finding.{Finding}
 use Rattle.paper.specs.declared.Finding.the-variants as finding
 use Rattle.paper.proofs.Findings.{found-first}
+use Rattle.paper.proofs.Laws.{or-false}
 use Rattle.tree.specs.Laid.{Laid}
 use Rattle.order.specs.Ordered.{BlocksAt, no-blocks, more-blocks, Ordered}
 use Rattle.routes.specs.declared.Found.{Found}
@@ -53,17 +54,13 @@ pub id-absent : (w : List ℕ) {s tree : List ℕ} {o : Option Element} {f : Fou
 unfolding among-texts with-id
 id-absent w found e = sym (rw (found-none found e))
 
-or-none : (a : Bool) → (a || false) ≡ a
-or-none true = refl
-or-none false = refl
-
 pub id-there : (w : List ℕ) {s tree u v : List ℕ} {o : Option Element} {f : Found} {i : ℕ} {r : Bool} → Finds s tree o f → f ≡ At i
     → u ≡ w → ((t : Element) (next : ℕ) → Laid s tree t i next → v ≡ text-of t) → r ≡ same u v → r ≡ among-texts w (with-id [] o)
 unfolding among-texts with-id
 id-there w {v = v} {o} found e g h d =
     let t = found-some found e in
     let x : among-texts w (with-id [] o) ≡ among-texts w (text-of (t .it) ∷ []) = ap (λ (p : Option Element). among-texts w (with-id [] p)) (t .is-it) in
-    d ∙ ap (λ (a : List ℕ). same a v) g ∙ ap (same w) (h (t .it) (t .next) (t .laid)) ∙ sym (x ∙ or-none (same w (text-of (t .it))))
+    d ∙ ap (λ (a : List ℕ). same a v) g ∙ ap (same w) (h (t .it) (t .next) (t .laid)) ∙ sym (x ∙ or-false (same w (text-of (t .it))))
 
 -- Block j is next, of k, and no block before it has the id.
 pub record Unmatched (s tree out w : List ℕ) (bs : List Element) (j k : ℕ) : Type 0 where
@@ -96,7 +93,7 @@ module _ {s tree out : List ℕ} where
 
     joined : (f : FirstBlock s tree out j (u .rest)) → among-texts (text-of t) (with-id (u .earlier) (child rows 10 11 (f .one))) ≡ r
     joined f =
-        among-more (text-of t) (u .earlier) (child rows 10 11 (f .one)) ∙ rw (← answer f, u .not-among) (or-none r)
+        among-more (text-of t) (u .earlier) (child rows 10 11 (f .one)) ∙ rw (← answer f, u .not-among) (or-false r)
 
     pub matched : r ≡ true → true ≡ among-texts (text-of t) (with-ids [] bs)
     matched e =

@@ -2,7 +2,7 @@
 use Prim.Native.Nat.{ℕ}
 use mathlib.Core.List.{List, [], _∷_, _++_, List·Memᴰ, List·Memᴰ·head, List·Memᴰ·tail, List·Memᴰ·cases-cons, List·Memᴰ·not-nil}
 use mathlib.Core.Bool.{Bool, true, false, _&&_, _||_}
-use mathlib.Core.Option.{none, some}
+use mathlib.Core.Option.{Option, none, some}
 use mathlib.Core.Path.{_≡_, refl, sym, subst}
 use mathlib.Core.Logic.{⊎-elim}
 use native.Mathlib.Omega.{arith}
@@ -10,6 +10,7 @@ use borrow.Author.Tests.{eqb-true, eq-eqb}
 use lib.Dec.{eqb}
 use Rattle.paper.specs.Bytes.{Every, none as every-none, more as every-more, every, same}
 use Rattle.paper.specs.Values.{among}
+use Rattle.paper.specs.Refusals.{Refusal}
 use Rattle.paper.specs.Accepted.{All, all-none, all-more}
 
 -- two values that can't be equal
@@ -92,3 +93,17 @@ among-says n (k ∷ ks) e = go (eqb n k) refl e (λ f. among-says n ks f)
 pub all-joined : {A : Type 0} {P : A → Type 0} {l m : List A} → All P l → All P m → All P (l ++ m)
 all-joined all-none k = k
 all-joined (all-more p h) k = all-more p (all-joined h k)
+
+-- a test or nothing
+pub or-false : (b : Bool) → (b || false) ≡ b
+or-false true = refl
+or-false false = refl
+
+-- a refusal's number and offset, 0 where there is none
+unfoldable pub number-of : Option Refusal → ℕ
+number-of none = 0
+number-of (some r) = r .number
+
+unfoldable pub offset-of : Option Refusal → ℕ
+offset-of none = 0
+offset-of (some r) = r .offset

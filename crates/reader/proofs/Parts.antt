@@ -16,6 +16,7 @@ use Rattle.paper.specs.Answers.{refusal-of}
 use Rattle.paper.specs.declared.Fault.{Fault}
 use Rattle.paper.specs.declared.Verdict.{Verdict}
 use Rattle.paper.specs.declared.Verdict.the-variants.{Accepted, Refused}
+use Rattle.stages.proofs.InTurn.{refused-has}
 use Rattle.order.specs.Ordered.{Ordered}
 use Rattle.parts.specs.Parts.{HandsBack}
 use Rattle.stages.specs.Decided.{Decided, decided-refused, decided-accepted}
@@ -34,10 +35,6 @@ accepted-has (decided-refused o) e then = let z : _≡_ {A = ℕ} 0 1 = cc in ab
 accepted-has {p = p} (decided-accepted {root = root} {p = y} l o t q) e then =
     let g : y ≡ p = cc in
     then root o (q .ordered) (sym g ∙ q .payments-are) (subst (λ (n : ℕ). n ≤ 64) g (q .few))
-
-refused-has : {s tree order : List ℕ} {v : Verdict} {f : Fault} → Decided s tree order v → v ≡ Refused f → outcome-alone rows s ≡ refused-as (refusal-of f)
-refused-has {f = f} (decided-refused {f = x} o) e = let g : x ≡ f = cc in o ∙ ap (λ (z : Fault). refused-as (refusal-of z)) g
-refused-has (decided-accepted l o t q) e = let z : _≡_ {A = ℕ} 0 1 = cc in absurd (omega (arith, z))
 
 module _ (payment field : ℕ) {message handed : RefT (List ℕ)} {tree order : List ℕ} {v : Verdict} (d : Decided (now message) tree order v) where
   pub no-field : {f : Fault} → v ≡ Refused f → HandsBack message handed (record { start = 0; size = 0 })

@@ -24,6 +24,7 @@ use Rattle.paper.specs.declared.Verdict.the-variants.{Accepted, Refused}
 use Rattle.paper.specs.declared.Regrouping.{Regrouping}
 use Rattle.paper.specs.declared.Regrouping.the-variants as regroup
 use Rattle.paper.proofs.Laws.{all-map}
+use Rattle.stages.proofs.InTurn.{refused-has}
 use Rattle.lists.specs.Lists.{how-many}
 use Rattle.moves.specs.Pairs.{InOrder, answer-of}
 use Rattle.lists.specs.declared.Listed.{Listed}
@@ -43,10 +44,6 @@ in-order q =
       amounts = all-map (λ p r. r .amount) (q .readable .in-payments);
     }
 
-pub when-refused : {s tree order : List ℕ} {v : Verdict} {f : Fault} → Decided s tree order v → v ≡ Refused f → outcome-alone rows s ≡ refused-as (refusal-of f)
-when-refused {f = f} (decided-refused {f = x} o) e = let g : x ≡ f = cc in o ∙ ap (λ (z : Fault). refused-as (refusal-of z)) g
-when-refused (decided-accepted l o t q) e = let z : _≡_ {A = ℕ} 0 1 = cc in absurd (omega (arith, z))
-
 pub when-accepted : {A : Type 0} {s tree order : List ℕ} {v : Verdict} {b p c : ℕ} → Decided s tree order v → v ≡ Accepted b p c
     → ((root : Element) → outcome-alone rows s ≡ accepted-with root → InOrder s tree order p root → A) → A
 when-accepted (decided-refused o) e use-it = let z : _≡_ {A = ℕ} 0 1 = cc in absurd (omega (arith, z))
@@ -57,7 +54,7 @@ when-accepted {s = s} {tree} {order} {p = p} (decided-accepted {root = root} {p 
 pub second-refused : (root : Element) (list : List ℕ) {second tree order : List ℕ} {v : Verdict} {f : Fault} → Decided second tree order v → v ≡ Refused f
     → regrouping-of (regroup.SecondRefused f) ≡ of-outcomes rows (accepted-with root) (outcome-alone rows second) list
 unfolding regrouping-of of-outcomes
-second-refused root list d e = rw (when-refused d e)
+second-refused root list d e = rw (refused-has d e)
 
 pub second-accepted : (root : Element) (list : List ℕ) {second tree order : List ℕ} {v : Verdict} {b p c : ℕ} (r : Regrouping) → Decided second tree order v → v ≡ Accepted b p c
     → ((root2 : Element) → InOrder second tree order p root2 → regrouping-of r ≡ of-payments (all-values rows root) (all-values rows root2) list)
@@ -68,7 +65,7 @@ second-accepted root list r d e h = when-accepted d e (λ root2 o i. rw o (h roo
 pub first-refused : (second list : List ℕ) {first tree order : List ℕ} {v : Verdict} {f : Fault} → Decided first tree order v → v ≡ Refused f
     → regrouping-of (regroup.FirstRefused f) ≡ regrouping rows first second list
 unfolding regrouping-of of-outcomes regrouping
-first-refused second list d e = rw (when-refused d e)
+first-refused second list d e = rw (refused-has d e)
 
 pub first-accepted : (second list : List ℕ) {first tree order : List ℕ} {v : Verdict} {b p c : ℕ} (r : Regrouping) → Decided first tree order v → v ≡ Accepted b p c
     → ((root1 : Element) → InOrder first tree order p root1 → regrouping-of r ≡ of-outcomes rows (accepted-with root1) (outcome-alone rows second) list)

@@ -185,3 +185,8 @@ module _ {s tree order : List ℕ} {f : Finding} (h : Shaped s tree f) where
       go : {f : Finding} → Shaped s tree f → f ≡ finding.Nothing → Decided s tree order v
       go (not-shaped o) e = let z : _≡_ {A = ℕ} 0 1 = cc in absurd (omega (arith, z))
       go (is-shaped {root = root} {next = next} l r t) e = decide l r t (passes root next t)
+
+-- a message that was refused is refused where no table is lent
+pub refused-has : {s tree order : List ℕ} {v : Verdict} {f : Fault} → Decided s tree order v → v ≡ Refused f → outcome-alone rows s ≡ refused-as (refusal-of f)
+refused-has {f = f} (decided-refused {f = x} o) e = let g : x ≡ f = cc in o ∙ ap (λ (z : Fault). refused-as (refusal-of z)) g
+refused-has (decided-accepted l o t q) e = let z : _≡_ {A = ℕ} 0 1 = cc in absurd (omega (arith, z))

@@ -11,18 +11,10 @@ use Rattle.paper.specs.Values.{lies-from, allowed}
 use Rattle.paper.specs.Form.{Head}
 use Rattle.paper.specs.Rows.{Row, text}
 use Rattle.paper.specs.Refusals.{Refusal, refuse, longest-of, first-not, leaf-refusal}
+use Rattle.paper.proofs.Laws.{number-of, offset-of}
 use Rattle.values.specs.Judgements.{told, Judges}
 use Rattle.values.specs.declared.Judgement.{Judgement}
 use Rattle.values.specs.declared.Judgement.the-variants.{Fine, EmptyOrTooLong, NotInTheSet, NotAllowed}
-
--- a refusal's number and offset, 0 where there is none
-number-of : Option Refusal → ℕ
-number-of none = 0
-number-of (some r) = r .number
-
-offset-of : Option Refusal → ℕ
-offset-of none = 0
-offset-of (some r) = r .offset
 
 differ : {A : Type 0} {m n : ℕ} → (m ≡ n → ⊥) → m ≡ n → A
 differ f e = absurd (f e)
