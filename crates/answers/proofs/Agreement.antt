@@ -16,7 +16,8 @@ use Rattle.paper.specs.declared.Verdict.{Verdict}
 use Rattle.paper.specs.declared.Verdict.the-variants.{Accepted, Refused}
 use Rattle.paper.specs.declared.Regrouping.{Regrouping}
 use Rattle.paper.specs.declared.Regrouping.the-variants as regrouping
-use Rattle.answers.specs.Numbers.{as-returned, as-regrouping-returned}
+use Rattle.answers.specs.Numbers.{Numbers, as-returned, as-regrouping-returned}
+use Rattle.answers.specs.declared.Refusal.{Refusal as OfFault}
 use Rattle.answers.specs.declared.OfMessage.{OfMessage}
 use Rattle.answers.specs.declared.OfRegrouping.{OfRegrouping}
 
@@ -106,6 +107,18 @@ regrouping-again (regrouping.FieldsDiffer k field) = refl
 
 pub one-regrouping : (r q : Regrouping) → regrouping-of r ≡ regrouping-of q → r ≡ q
 one-regrouping r q e = sym (regrouping-again r) ∙ ap regrouping-by e ∙ regrouping-again q
+
+-- a refusal is known by its three numbers
+pub one-refusal : (p : Refusal) (r q : OfFault) → Numbers p r → Numbers p q → r ≡ q
+one-refusal p r q a b =
+    let n : r .number ≡ q .number = a .number-is ∙ sym (b .number-is) in
+    let e : r .element ≡ q .element = a .element-is ∙ sym (b .element-is) in
+    let o : r .offset ≡ q .offset = a .offset-is ∙ sym (b .offset-is) in
+    same-fields n e o
+  where
+    same-fields : {n m e f o u : ℕ} → n ≡ m → e ≡ f → o ≡ u
+        → _≡_ {A = OfFault} (record { number = n; element = e; offset = o }) (record { number = m; element = f; offset = u })
+    same-fields x y z = rw (x, y, z)
 
 -- what is returned is known by its six numbers
 message-by : Returned → OfMessage

@@ -4,20 +4,23 @@ use native.Mathlib.Omega.{arith}
 use mathlib.Core.List.{List, [], _∷_, _++_}
 use mathlib.Core.Path.{_≡_, refl, sym, ap, _∙_}
 use lib.ListN.{length, drop}
+use Rattle.paper.specs.Bytes.{each}
 use Rattle.paper.specs.Form.{Element}
 use Rattle.paper.specs.Rows.{rows}
 use Rattle.paper.specs.Payments.{payments}
 use Rattle.paper.specs.Refusals.{Outcome, refused-as, accepted-with, least-table, outcome}
 use Rattle.paper.specs.Regrouping.{regrouping, returned}
-use Rattle.paper.specs.Table.{numbers-of-a-payment, all-numbers, table-after}
-use Rattle.paper.specs.Host.{four-bytes, all-four-bytes, numbers-held, bytes-after}
+use Rattle.paper.specs.Table.{over, numbers-of, written, table-after}
+use Rattle.paper.specs.Host.{four-bytes, numbers-held, bytes-after}
 use Rattle.acceptance.proofs.Apart.{rows-apart}
 use Rattle.acceptance.proofs.Outcome.{accepted-with-table, accepted-alone}
 use Rattle.answers.specs.Numbers.{as-regrouping-returned}
 use Rattle.answers.specs.declared.OfMessage.{OfMessage}
 use Rattle.answers.specs.declared.OfRegrouping.{OfRegrouping}
 use Rattle.answers.proofs.Agreement.{one-returned, one-regrouping-returned}
+use Rattle.table.proofs.Filling.{all-numbers-length}
 use Rattle.host.specs.Answers.{Answers}
+use Rattle.host.proofs.Laws.{four-length}
 
 -- two answers that meet the contract of `glowenzo_verdict`, and what they leave in the table, are the same
 pub verdicts-agree : {message before after other : List ℕ} (r q : OfMessage) → Answers message before r after → Answers message before q other → r ≡ q
@@ -49,13 +52,13 @@ left-over (a ∷ b ∷ c ∷ d ∷ s) = left-over s
 again : (n : ℕ) → ((n / 16777216 * 256 + n / 65536 % 256) * 256 + n / 256 % 256) * 256 + n % 256 ≡ n
 again n = omega arith
 
-numbers-again : (ns s : List ℕ) → numbers-32 (all-four-bytes ns ++ s) ≡ ns ++ numbers-32 s
-unfolding numbers-32 all-four-bytes four-bytes
+numbers-again : (ns s : List ℕ) → numbers-32 (each four-bytes ns ++ s) ≡ ns ++ numbers-32 s
+unfolding numbers-32 each four-bytes
 numbers-again [] s = refl
 numbers-again (n ∷ ns) s = rw (again n, numbers-again ns s)
 
-left-again : (ns s : List ℕ) → left-over (all-four-bytes ns ++ s) ≡ left-over s
-unfolding left-over all-four-bytes four-bytes
+left-again : (ns s : List ℕ) → left-over (each four-bytes ns ++ s) ≡ left-over s
+unfolding left-over each four-bytes
 left-again [] s = refl
 left-again (n ∷ ns) s = left-again ns s
 
@@ -91,33 +94,30 @@ held-are (a ∷ b ∷ c ∷ d ∷ s) = omega (arith, held-are s)
 
 -- The table afterwards, read as numbers, is the reader's.
 pub as-the-reader : (o : Outcome) (old : List ℕ) → numbers-32 (bytes-after rows o old) ≡ table-after rows o (numbers-32 old)
-unfolding bytes-after table-after
-as-the-reader (refused-as r) old = refl
-as-the-reader (accepted-with root) old =
-    let ns = all-numbers rows (payments rows root) in
-    let k = numbers-of-a-payment * length (payments rows root) in
-    numbers-again ns (drop (4 * k) old) ∙ ap (λ (l : List ℕ). ns ++ l) (numbers-drop k old)
+unfolding bytes-after table-after over
+as-the-reader o old =
+    let ns = written rows o in
+    numbers-again ns (drop (length (each four-bytes ns)) old) ∙
+    ap (λ (l : List ℕ). ns ++ l) (ap (λ (n : ℕ). numbers-32 (drop n old)) (four-length ns) ∙ numbers-drop (length ns) old)
 
 -- The bytes that make no number stay: an accepted message has at most 64 payments, and the table room for them.
-left-of-outcome : (o : Outcome) (old : List ℕ) → ((root : Element) → o ≡ accepted-with root → 4 * (numbers-of-a-payment * length (payments rows root)) ≤ length old)
-    → left-over (bytes-after rows o old) ≡ left-over old
-unfolding bytes-after
-left-of-outcome (refused-as r) old h = refl
-left-of-outcome (accepted-with root) old h =
-    let k = numbers-of-a-payment * length (payments rows root) in
-    left-again (all-numbers rows (payments rows root)) (drop (4 * k) old) ∙ left-drop k old (h root refl)
+left-of-outcome : (o : Outcome) (old : List ℕ) → 4 * length (written rows o) ≤ length old → left-over (bytes-after rows o old) ≡ left-over old
+unfolding bytes-after over
+left-of-outcome o old h =
+    let ns = written rows o in
+    left-again ns (drop (length (each four-bytes ns)) old) ∙ ap (λ (n : ℕ). left-over (drop n old)) (four-length ns) ∙ left-drop (length ns) old h
 
-room-for-all : (message before : List ℕ) (root : Element) → outcome rows (numbers-held before) message ≡ accepted-with root
-    → 4 * (numbers-of-a-payment * length (payments rows root)) ≤ length before
-unfolding numbers-held numbers-of-a-payment least-table
-room-for-all message before root e =
+room-for-all : (message before : List ℕ) (o : Outcome) → outcome rows (numbers-held before) message ≡ o → 4 * length (written rows o) ≤ length before
+unfolding written numbers-held least-table
+room-for-all message before (refused-as r) e = omega arith
+room-for-all message before (accepted-with root) e =
     let a = accepted-with-table rows rows-apart (numbers-held before) message root .0 e in
     let few = accepted-alone rows rows-apart message root .0 (a .1) .2 .payments-limit in
-    omega (arith, a .0, few)
+    omega (arith, a .0, few, all-numbers-length (payments rows root))
 
 pub left-stays : {message before after : List ℕ} {r : OfMessage} → Answers message before r after → left-over after ≡ left-over before
 left-stays {message} {before} a =
-    ap left-over (a .table-is) ∙ left-of-outcome (outcome rows (numbers-held before) message) before (λ root e. room-for-all message before root e)
+    ap left-over (a .table-is) ∙ left-of-outcome (outcome rows (numbers-held before) message) before (room-for-all message before (outcome rows (numbers-held before) message) refl)
 
 -- 999,999,999 euros, as they stand in the table
 an-amount : four-bytes 999999999 ≡ 59 ∷ 154 ∷ 201 ∷ 255 ∷ []

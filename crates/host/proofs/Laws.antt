@@ -7,21 +7,24 @@ use mathlib.Core.Path.{_≡_, refl, sym, ap, _∙_, subst}
 use borrow.Author.Tests.{lt-ltb, le-ltb}
 use lib.ListN.{length, getD, set, take, drop, length-append, length-set}
 use lib.Seq.{length-take-le, take-at, take-suc, drop-append-add, drop-drop}
+use Rattle.paper.specs.Bytes.{each}
 use Rattle.paper.specs.Form.{Element}
 use Rattle.paper.specs.Rows.{rows}
 use Rattle.paper.specs.Payments.{payments}
 use Rattle.paper.specs.Refusals.{Outcome, refused-as, accepted-with, Answer, accepted, refused, answer, refuse, least-table, table-refusal, unless-refused, outcome-alone, outcome, verdict, returned}
-use Rattle.paper.specs.Table.{numbers-of-a-payment, all-numbers, table-after}
-use Rattle.paper.specs.Host.{four-bytes, all-four-bytes, numbers-held, bytes-after}
+use Rattle.paper.specs.Table.{over, numbers-of, written, table-after}
+use Rattle.paper.specs.Host.{four-bytes, numbers-held, bytes-after}
 use Rattle.paper.specs.Answers.{refusal-of, numbered, answer-of}
 use Rattle.paper.specs.declared.Fault.{Fault}
 use Rattle.paper.specs.declared.Fault.the-variants.{TableTooShort}
 use Rattle.paper.specs.declared.Verdict.{Verdict}
 use Rattle.paper.specs.declared.Verdict.the-variants.{Accepted, Refused}
+use Rattle.paper.proofs.Laws.{each-more, each-length}
 use Rattle.answers.specs.Numbers.{as-returned}
 use Rattle.answers.specs.declared.OfMessage.{OfMessage}
 use Rattle.table.proofs.Filling.{all-numbers-length}
 use Rattle.reader.specs.Answers as reader
+use Rattle.reader.proofs.Verdicts.{long-enough}
 use Rattle.host.specs.Answers.{Answers}
 
 -- room for four bytes at a place, and for those after what was put
@@ -50,27 +53,17 @@ four-put (x ∷ t) (suc at) a b c d h =
     let e4 : suc at + 4 ≡ suc (at + 4) = omega arith in
     rw (e1, e2, e3, e4) (ap (λ (l : List ℕ). x ∷ l) (four-put t at a b c d (omega (arith, h))))
 
-all-length : (ns : List ℕ) → length (all-four-bytes ns) ≡ 4 * length ns
-unfolding all-four-bytes four-bytes
-all-length [] = refl
-all-length (n ∷ ns) = omega (arith, all-length ns)
-
-all-append : (ms ns : List ℕ) → all-four-bytes (ms ++ ns) ≡ all-four-bytes ms ++ all-four-bytes ns
-unfolding all-four-bytes
-all-append [] ns = refl
-all-append (m ∷ ms) ns =
-    ap (λ (l : List ℕ). four-bytes m ++ l) (all-append ms ns) ∙ sym (append-assoc (four-bytes m) (all-four-bytes ms) (all-four-bytes ns))
-
-all-one : (n : ℕ) → all-four-bytes (n ∷ []) ≡ four-bytes n
-unfolding all-four-bytes four-bytes
-all-one n = refl
+-- how long numbers are as bytes
+pub four-length : (ns : List ℕ) → length (each four-bytes ns) ≡ 4 * length ns
+unfolding four-bytes
+four-length ns = each-length four-bytes 4 (λ n. refl) ns
 
 -- the numbers before i written, and then what was there
 abbrev pub Written : (numbers old : List ℕ) (i : ℕ) (table : List ℕ) → Type 0
-Written numbers old i table = table ≡ all-four-bytes (take i numbers) ++ drop (4 * i) old
+Written numbers old i table = table ≡ each four-bytes (take i numbers) ++ drop (4 * i) old
 
 pub none-written : (numbers old : List ℕ) → Written numbers old 0 old
-unfolding all-four-bytes
+unfolding each
 none-written numbers old = refl
 
 module _ (numbers old : List ℕ) (i : ℕ) {table : List ℕ} (l : i < length numbers) (h : length table ≡ length old) (w : Written numbers old i table) where
@@ -79,24 +72,20 @@ module _ (numbers old : List ℕ) (i : ℕ) {table : List ℕ} (l : i < length n
   one-written r p =
       let n = getD numbers i 0 in
       let four-more : 4 * i + 4 ≡ 4 * (i + 1) = omega arith in
-      let front = all-four-bytes (take i numbers) in
-      let front-length : length front ≡ 4 * i = all-length (take i numbers) ∙ ap (λ (n : ℕ). 4 * n) (length-take-le i numbers (omega (arith, l))) in
+      let front = each four-bytes (take i numbers) in
+      let front-length : length front ≡ 4 * i = four-length (take i numbers) ∙ ap (λ (n : ℕ). 4 * n) (length-take-le i numbers (omega (arith, l))) in
       let a : take (4 * i) table ≡ front = ap (take (4 * i)) w ∙ take-at front (drop (4 * i) old) (4 * i) front-length in
       let b : drop (4 * i + 4) table ≡ drop (4 * (i + 1)) old =
       ap (drop (4 * i + 4)) w ∙ ap (λ (m : ℕ). drop (m + 4) (front ++ drop (4 * i) old)) (sym front-length) ∙ drop-append-add front (drop (4 * i) old) 4 ∙ drop-drop 4 (4 * i) old ∙
       ap (λ (m : ℕ). drop m old) four-more in
-      let c : all-four-bytes (take (i + 1) numbers) ≡ front ++ four-bytes n =
-      rw add-one (ap all-four-bytes (take-suc numbers i 0 l)) ∙ all-append (take i numbers) (n ∷ []) ∙ ap (λ (x : List ℕ). front ++ x) (all-one n) in
+      let c : each four-bytes (take (i + 1) numbers) ≡ front ++ four-bytes n =
+      rw add-one (ap (λ (w : List ℕ). each four-bytes w) (take-suc numbers i 0 l)) ∙ each-more four-bytes (take i numbers) n in
       p (omega (arith, r, h)) ∙ rw (a, b, c) (sym (append-assoc front (four-bytes n) (drop (4 * (i + 1)) old)))
 
 pub all-written : (numbers old : List ℕ) (i many : ℕ) {table : List ℕ} → i ≡ many → Written numbers old i table → Written numbers old many table
 all-written numbers old i many {table} e w = subst (λ (n : ℕ). Written numbers old n table) e w
 
--- with room for 1,024 numbers the outcome is that of the message alone
-long-enough : (s : List ℕ) (n : ℕ) → 1024 ≤ n → outcome rows n s ≡ outcome-alone rows s
-unfolding outcome table-refusal least-table unless-refused
-long-enough s n h = rw (le-ltb n 1024 h)
-
+-- the table's bytes and its numbers
 held-long : (table : List ℕ) → 4096 ≤ length table → 1024 ≤ numbers-held table
 unfolding numbers-held
 held-long table h = omega (arith, h)
@@ -107,7 +96,7 @@ unfolding verdict
 told s before after v e a t = record { answer-is = e ∙ ap returned a; table-is = t }
 
 pub too-short : (s before : List ℕ) {r : OfMessage} → length before < 4096 → as-returned r ≡ returned (answer-of (Refused TableTooShort)) → Answers s before r before
-unfolding outcome table-refusal least-table refuse unless-refused answer answer-of refusal-of numbered bytes-after numbers-held
+unfolding outcome table-refusal least-table refuse unless-refused answer answer-of refusal-of numbered bytes-after over written each numbers-held
 too-short s before h e =
     let l : length before / 4 < 1024 = omega (arith, h) in
     told s before before (Refused TableTooShort) e (rw (lt-ltb (length before / 4) 1024 l)) (rw (lt-ltb (length before / 4) 1024 l))
@@ -118,7 +107,7 @@ module _ (s before : List ℕ) {own filled : List ℕ} {v : Verdict} (h : 4096 �
   as-own = long-enough s (numbers-held before) (held-long before h) ∙ sym (long-enough s (length own) (omega (arith, long)))
 
   pub refused-bytes : {f : Fault} {r : OfMessage} → v ≡ Refused f → as-returned r ≡ returned (answer-of (Refused f)) → Answers s before r before
-  unfolding verdict answer answer-of bytes-after
+  unfolding verdict answer answer-of bytes-after over written each
   refused-bytes {f} {r} e q = go (outcome rows (numbers-held before) s) refl
     where
       go : (o : Outcome) → outcome rows (numbers-held before) s ≡ o → Answers s before r before
@@ -133,11 +122,11 @@ module _ (s before : List ℕ) {own filled : List ℕ} {v : Verdict} (h : 4096 �
     pub root : Element
     pub outcome-is : outcome rows (length own) s ≡ accepted-with root
     pub payments-are : p ≡ length (payments rows root)
-    pub filled-is : filled ≡ all-numbers rows (payments rows root) ++ drop (16 * length (payments rows root)) own
+    pub filled-is : filled ≡ over (each (numbers-of rows) (payments rows root)) own
 
   module _ {b p c : ℕ} (e : v ≡ Accepted b p c) where
     numbered-by : Numbered p
-    unfolding verdict answer answer-of table-after numbers-of-a-payment
+    unfolding verdict answer answer-of table-after written
     numbered-by = go (outcome rows (length own) s) refl
       where
         go : (o : Outcome) → outcome rows (length own) s ≡ o → Numbered p
@@ -150,20 +139,22 @@ module _ (s before : List ℕ) {own filled : List ℕ} {v : Verdict} (h : 4096 �
             record { root = root; outcome-is = q; payments-are = cc; filled-is = a .table-is ∙ ap (λ (o : Outcome). table-after rows o own) q }
 
     pub room : length filled ≡ 1024 → 16 * p ≤ 1024
+    unfolding over
     room l =
         let n = numbered-by in
-        let ns = all-numbers rows (payments rows (n .root)) in
-        omega (arith, l, ap length (n .filled-is), length-append ns (drop (16 * length (payments rows (n .root))) own), all-numbers-length (payments rows (n .root)), n .payments-are)
+        let ns = each (numbers-of rows) (payments rows (n .root)) in
+        omega (arith, l, ap length (n .filled-is), length-append ns (drop (length ns) own), all-numbers-length (payments rows (n .root)), n .payments-are)
 
     pub accepted-bytes : {r : OfMessage} {after : List ℕ} → length filled ≡ 1024 → as-returned r ≡ returned (answer-of (Accepted b p c))
-        → (16 * p ≤ length filled → 4 * (16 * p) ≤ length before → after ≡ all-four-bytes (take (16 * p) filled) ++ drop (4 * (16 * p)) before) → Answers s before r after
-    unfolding verdict bytes-after numbers-of-a-payment
+        → (16 * p ≤ length filled → 4 * (16 * p) ≤ length before → after ≡ each four-bytes (take (16 * p) filled) ++ drop (4 * (16 * p)) before) → Answers s before r after
+    unfolding verdict bytes-after over written
     accepted-bytes {r} {after} l q w =
         let n = numbered-by in
-        let ps = payments rows (n .root) in
+        let ns = each (numbers-of rows) (payments rows (n .root)) in
         let few = room l in
-        let x : take (16 * p) filled ≡ all-numbers rows ps =
-        ap (take (16 * p)) (n .filled-is) ∙ take-at (all-numbers rows ps) (drop (16 * length ps) own) (16 * p) (all-numbers-length ps ∙ ap (λ (m : ℕ). 16 * m) (sym (n .payments-are))) in
+        let many : length ns ≡ 16 * p = all-numbers-length (payments rows (n .root)) ∙ ap (λ (m : ℕ). 16 * m) (sym (n .payments-are)) in
+        let x : take (16 * p) filled ≡ ns = ap (take (16 * p)) (n .filled-is) ∙ take-at ns (drop (length ns) own) (16 * p) many in
+        let y : 4 * (16 * p) ≡ length (each four-bytes ns) = ap (λ (m : ℕ). 4 * m) (sym many) ∙ sym (four-length ns) in
         let o : outcome rows (numbers-held before) s ≡ accepted-with (n .root) = as-own ∙ n .outcome-is in
         told s before after (Accepted b p c) q (sym (ap answer-of e) ∙ a .answer-is ∙ ap (answer rows) (sym as-own))
-        (w (omega (arith, few, l)) (omega (arith, few, h)) ∙ rw (o, x) (ap (λ (m : ℕ). all-four-bytes (all-numbers rows ps) ++ drop (4 * (16 * m)) before) (n .payments-are)))
+        (w (omega (arith, few, l)) (omega (arith, few, h)) ∙ rw (o, x) (ap (λ (m : ℕ). each four-bytes ns ++ drop m before) y))

@@ -9,7 +9,8 @@ ghost use Prim.Native.Nat.{_+_, _*_, _≤_};
 ghost use lib.ListN.{length, take, drop};
 ghost use Rattle.paper.specs.Rows.{rows};
 ghost use Rattle.paper.specs.Regrouping.{regrouping, returned};
-ghost use Rattle.paper.specs.Host.{four-bytes, all-four-bytes};
+ghost use Rattle.paper.specs.Bytes.{each};
+ghost use Rattle.paper.specs.Host.{four-bytes};
 ghost use Rattle.answers.specs.Numbers.{as-regrouping-returned};
 ghost use Rattle.host.specs.Answers.{Answers};
 
@@ -31,7 +32,7 @@ fn put(table: &mut [u8], at: usize, n: u32)
 
 // So many numbers from the table's start on; every later byte stays.
 fn write(numbers: &[u32], many: usize, table: &mut [u8])
-    ensures { λ _. ⌜ (many ≤ length (now (numbers .entry)) → 4 * many ≤ length (now (table .entry)) → now (table .exit) ≡ all-four-bytes (take many (now (numbers .entry))) ++ drop (4 * many) (now (table .entry))) ⌝ }
+    ensures { λ _. ⌜ (many ≤ length (now (numbers .entry)) → 4 * many ≤ length (now (table .entry)) → now (table .exit) ≡ each four-bytes (take many (now (numbers .entry))) ++ drop (4 * many) (now (table .entry))) ⌝ }
 {
     let mut i = 0;
     while i < many {

@@ -10,14 +10,14 @@ use mathlib.Core.Logic.{_↔_}
 use lib.ListN.{length, getD, take, length-map}
 use lib.Dec.{eqb}
 use borrow.Author.Tests.{eqb-true, eq-eqb}
-use Rattle.paper.specs.Bytes.{if_then_else_, bytes, same}
+use Rattle.paper.specs.Bytes.{if_then_else_, bytes, same, each}
 use Rattle.paper.specs.Form.{Element}
 use Rattle.paper.specs.Rows.{rows}
 use Rattle.paper.specs.Payments.{Payment, payments}
 use Rattle.paper.specs.Refusals.{Outcome, refused-as, accepted-with, outcome-alone}
 use Rattle.paper.specs.Accepted.{All, all-none, all-more, Accepted}
 use Rattle.paper.specs.Fields.{Value, values-of}
-use Rattle.paper.specs.Regrouping.{Answer, answered, add-first, numbers-16, counted, ordinals-of, two-bytes, all-two-bytes, file-of, same-payment, often, pairing, of-payments, all-values, of-outcomes, regrouping, Regroups, AcceptableList, EquallyOften}
+use Rattle.paper.specs.Regrouping.{Answer, answered, add-first, numbers-16, counted, ordinals-of, two-bytes, file-of, same-payment, often, pairing, of-payments, all-values, of-outcomes, regrouping, Regroups, AcceptableList, EquallyOften}
 use Rattle.paper.proofs.Laws.{both, all-map, all-from, all-joined}
 use Rattle.acceptance.proofs.Accepts.{accepted-from, outcome-of}
 use Rattle.pairing.proofs.Counting.{count, Names, names-none, names-more, Pairs, paired-counts, counts-paired}
@@ -171,8 +171,8 @@ module _ (first second file : List ℕ) where
   regroups-exactly = (accepted-regroups, regroups-accepted)
 
 -- the bytes of a list are read back as its ordinals
-numbers-back : (ns : List ℕ) → numbers-16 (all-two-bytes ns) ≡ some ns
-unfolding numbers-16 all-two-bytes two-bytes add-first
+numbers-back : (ns : List ℕ) → numbers-16 (each two-bytes ns) ≡ some ns
+unfolding numbers-16 each two-bytes add-first
 numbers-back [] = refl
 numbers-back (n ∷ ns) = rw (numbers-back ns) (ap (λ (m : ℕ). some (m ∷ ns)) (omega arith))
 
@@ -187,8 +187,8 @@ two-bytes-small : (n : ℕ) → n < 65536 → All (λ b. b < 256) (two-bytes n)
 unfolding two-bytes
 two-bytes-small n h = all-more {a = n / 256} (omega arith) (all-more {a = n % 256} (omega arith) all-none)
 
-all-small : {ns : List ℕ} → All (λ n. n < 65536) ns → All (λ b. b < 256) (all-two-bytes ns)
-unfolding all-two-bytes
+all-small : {ns : List ℕ} → All (λ n. n < 65536) ns → All (λ b. b < 256) (each two-bytes ns)
+unfolding each
 all-small all-none = all-none
 all-small (all-more p h) = all-joined (two-bytes-small _ p) (all-small h)
 

@@ -1,14 +1,16 @@
 -- Laws about the paper's definitions of texts and lists: what a test says, as a statement.
-use Prim.Native.Nat.{ℕ}
-use mathlib.Core.List.{List, [], _∷_, _++_, List·Memᴰ, List·Memᴰ·head, List·Memᴰ·tail, List·Memᴰ·cases-cons, List·Memᴰ·not-nil}
+use Prim.Native.Nat.{ℕ, _*_}
+use mathlib.Core.List.{List, [], _∷_, _++_, append-assoc, append-nil, List·Memᴰ, List·Memᴰ·head, List·Memᴰ·tail, List·Memᴰ·cases-cons, List·Memᴰ·not-nil}
 use mathlib.Core.Bool.{Bool, true, false, _&&_, _||_}
 use mathlib.Core.Option.{Option, none, some}
-use mathlib.Core.Path.{_≡_, refl, sym, subst}
+use mathlib.Core.Path.{_≡_, refl, sym, subst, ap, _∙_}
 use mathlib.Core.Logic.{⊎-elim}
+use native.Mathlib.Nat.{mul-suc}
 use native.Mathlib.Omega.{arith}
 use borrow.Author.Tests.{eqb-true, eq-eqb}
+use lib.ListN.{length, length-append}
 use lib.Dec.{eqb}
-use Rattle.paper.specs.Bytes.{Every, none as every-none, more as every-more, every, same}
+use Rattle.paper.specs.Bytes.{Every, none as every-none, more as every-more, every, same, each}
 use Rattle.paper.specs.Values.{among}
 use Rattle.paper.specs.Refusals.{Refusal}
 use Rattle.paper.specs.Accepted.{All, all-none, all-more}
@@ -107,3 +109,14 @@ number-of (some r) = r .number
 unfoldable pub offset-of : Option Refusal → ℕ
 offset-of none = 0
 offset-of (some r) = r .offset
+
+-- several, each written: one after others, and how long they are where each is as long
+pub each-more : {A : Type 0} (f : A → List ℕ) (l : List A) (a : A) → each f (l ++ (a ∷ [])) ≡ each f l ++ f a
+unfolding each
+each-more f [] a = append-nil (f a)
+each-more f (b ∷ l) a = ap (λ (w : List ℕ). f b ++ w) (each-more f l a) ∙ sym (append-assoc (f b) (each f l) (f a))
+
+pub each-length : {A : Type 0} (f : A → List ℕ) (n : ℕ) → ((a : A) → length (f a) ≡ n) → (l : List A) → length (each f l) ≡ n * length l
+unfolding each
+each-length f n h [] = omega arith
+each-length f n h (a ∷ l) = length-append (f a) (each f l) ∙ rw (mul-suc n (length l)) (omega (arith, h a, each-length f n h l))

@@ -2,7 +2,7 @@
 use Prim.Native.Nat.{ℕ}
 use Prim.Native.Char.{Char, code}
 use Prim.Native.String.{String, [] as []ˢ, _∷_ as _∷ˢ_}
-use mathlib.Core.List.{List, [], _∷_}
+use mathlib.Core.List.{List, [], _∷_, _++_}
 use mathlib.Core.Bool.{Bool, true, false, _&&_, _||_, not}
 use mathlib.Core.Path.{_≡_}
 use lib.Dec.{eqb, leb}
@@ -71,3 +71,8 @@ same [] [] = true
 same [] (c ∷ t) = false
 same (b ∷ s) [] = false
 same (b ∷ s) (c ∷ t) = eqb b c && same s t
+
+-- what each of several is written as, one after the other
+unfoldable pub each : {A : Type 0} → (A → List ℕ) → List A → List ℕ
+each f [] = []
+each f (a ∷ l) = f a ++ each f l

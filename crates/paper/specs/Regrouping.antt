@@ -6,7 +6,7 @@ use mathlib.Core.Bool.{Bool, true, false, _&&_, not}
 use mathlib.Core.Path.{_≡_}
 use lib.ListN.{length, getD, take, drop}
 use lib.Dec.{eqb, ltb}
-use Rattle.paper.specs.Bytes.{if_then_else_, bytes, same}
+use Rattle.paper.specs.Bytes.{if_then_else_, bytes, same, each}
 use Rattle.paper.specs.Form.{Element}
 use Rattle.paper.specs.Rows.{Row}
 use Rattle.paper.specs.Values.{among}
@@ -39,12 +39,8 @@ ordinals-of file =
 unfoldable pub two-bytes : ℕ → List ℕ
 two-bytes n = n / 256 ∷ n % 256 ∷ []
 
-unfoldable pub all-two-bytes : List ℕ → List ℕ
-all-two-bytes [] = []
-all-two-bytes (n ∷ ns) = two-bytes n ++ all-two-bytes ns
-
 unfoldable pub file-of : (ordinals : List ℕ) → List ℕ
-file-of ordinals = bytes "RGL" ++ all-two-bytes (1 ∷ length ordinals ∷ ordinals)
+file-of ordinals = bytes "RGL" ++ each two-bytes (1 ∷ length ordinals ∷ ordinals)
 
 -- A message's refusal and whose (1 or 2); or number, k and the lowest differing field, all three 0 if accepted.
 pub data Answer : Type 0 where

@@ -1,8 +1,9 @@
 -- The table after acceptance.
-use Prim.Native.Nat.{ℕ, _-_, _*_, _/_, _%_}
+use Prim.Native.Nat.{ℕ, _-_, _/_, _%_}
 use mathlib.Core.List.{List, [], _∷_, _++_}
 use mathlib.Core.Option.{Option, none, some}
 use lib.ListN.{length, drop}
+use Rattle.paper.specs.Bytes.{each}
 use Rattle.paper.specs.Form.{Element}
 use Rattle.paper.specs.Rows.{Row, head-of}
 use Rattle.paper.specs.Payments.{Payment, payments, in-payment, in-block, inherited, amount-of}
@@ -17,8 +18,9 @@ unfoldable pub part-of : Option Element → Part
 part-of none = record { start = 0; size = 0 }
 part-of (some t) = record { start = head-of t .start; size = head-of t .close - head-of t .start }
 
-unfoldable pub numbers-of-a-payment : ℕ
-numbers-of-a-payment = 16
+-- what is written first, over what was there
+unfoldable pub over : (front old : List ℕ) → List ℕ
+over front old = front ++ drop (length front) old
 
 unfoldable pub two-numbers : Part → List ℕ
 two-numbers p = p .start ∷ p .size ∷ []
@@ -37,11 +39,11 @@ module _ (profile : List Row) where
       (two-numbers (part-of (in-block profile (26 ∷ 27 ∷ 28 ∷ []) p)) ++
       (amount-of profile (p .own) / 100 ∷ amount-of profile (p .own) % 100 ∷ head-of (p .own) .at ∷ [])))))))
 
-  unfoldable pub all-numbers : List Payment → List ℕ
-  all-numbers [] = []
-  all-numbers (p ∷ ps) = numbers-of p ++ all-numbers ps
+  -- The numbers that are written; after a refusal there are none.
+  unfoldable pub written : Outcome → List ℕ
+  written (refused-as r) = []
+  written (accepted-with root) = each numbers-of (payments profile root)
 
-  -- All later numbers keep their old values; after a refusal all numbers do.
+  -- All later numbers keep their old values.
   unfoldable pub table-after : Outcome → (old : List ℕ) → List ℕ
-  table-after (refused-as r) old = old
-  table-after (accepted-with root) old = all-numbers (payments profile root) ++ drop (numbers-of-a-payment * length (payments profile root)) old
+  table-after outcome old = over (written outcome) old

@@ -8,7 +8,7 @@ use lib.ListN.{length}
 use denote.Ref.{RefT, now}
 use Rattle.paper.specs.Rows.{rows}
 use Rattle.paper.specs.Refusals.{Outcome, refused-as, accepted-with, Answer, accepted, refused, answer, outcome, verdict, least-table}
-use Rattle.paper.specs.Table.{Part, table-after}
+use Rattle.paper.specs.Table.{Part, over, written, table-after}
 use Rattle.paper.specs.Accepted.{Accepted}
 use Rattle.paper.specs.Answers.{answer-of, refusal-of}
 use Rattle.paper.specs.declared.Fault.{Fault}
@@ -50,7 +50,7 @@ one-accepted (the.Refused f) e = absurd (omega (arith, e))
 
 -- Demand 1: after a refusal the table keeps its old numbers.
 pub refused-keeps : {s before after : List ℕ} {f : Fault} → Answers s before (the.Refused f) after → after ≡ before
-unfolding verdict answer answer-of accepts table-after
+unfolding verdict answer answer-of accepts table-after over written
 refused-keeps {s} {before} {after} {f} a = go (outcome rows (length before) s) (a .answer-is) (a .table-is)
   where
     go : (o : Outcome) → refused (refusal-of f) ≡ answer rows o → after ≡ table-after rows o before → after ≡ before

@@ -6,10 +6,12 @@ use mathlib.Core.Option.{some}
 use mathlib.Core.Path.{_≡_, refl, sym, ap, _∙_, subst}
 use lib.ListN.{length, getD, take, drop, length-append}
 use lib.Seq.{paste, take-at, drop-append-add, drop-drop, take-all}
+use Rattle.paper.proofs.Laws.{each-more, each-length}
+use Rattle.paper.specs.Bytes.{each}
 use Rattle.paper.specs.Form.{Element}
 use Rattle.paper.specs.Rows.{rows}
 use Rattle.paper.specs.Payments.{Payment, payments}
-use Rattle.paper.specs.Table.{two-numbers, numbers-of, all-numbers}
+use Rattle.paper.specs.Table.{two-numbers, numbers-of}
 use Rattle.paper.specs.Accepted.{All, all-more}
 use Rattle.tree.specs.Laid.{Laid}
 use Rattle.order.specs.Ordered.{PaymentsAt, more-payments, Ordered}
@@ -26,16 +28,8 @@ pub numbers-length : (p : Payment) → length (numbers-of rows p) ≡ 16
 unfolding numbers-of two-numbers
 numbers-length p = refl
 
-pub all-numbers-more : (ps : List Payment) (p : Payment) → all-numbers rows (ps ++ (p ∷ [])) ≡ all-numbers rows ps ++ numbers-of rows p
-unfolding all-numbers
-all-numbers-more [] p = append-nil (numbers-of rows p)
-all-numbers-more (q ∷ ps) p = ap (λ (l : List ℕ). numbers-of rows q ++ l) (all-numbers-more ps p) ∙ sym (append-assoc (numbers-of rows q) (all-numbers rows ps) (numbers-of rows p))
-
-pub all-numbers-length : (ps : List Payment) → length (all-numbers rows ps) ≡ 16 * length ps
-unfolding all-numbers
-all-numbers-length [] = refl
-all-numbers-length (p ∷ ps) =
-    length-append (numbers-of rows p) (all-numbers rows ps) ∙ omega (arith, numbers-length p, all-numbers-length ps)
+pub all-numbers-length : (ps : List Payment) → length (each (numbers-of rows) ps) ≡ 16 * length ps
+all-numbers-length ps = each-length (numbers-of rows) 16 numbers-length ps
 
 -- Filled up to payment k, of payments for which something holds.
 pub record Filled (P : Payment → Type 0) (s tree order old : List ℕ) (root : Element) (many k : ℕ) (table : List ℕ) : Type 0 where
@@ -44,21 +38,21 @@ pub record Filled (P : Payment → Type 0) (s tree order old : List ℕ) (root :
   pub split : payments rows root ≡ done ++ rest
   pub at-done : length done ≡ k
   pub stand : PaymentsAt s tree order k rest
-  pub each : All P rest
+  pub each-holds : All P rest
   pub as-many : k + length rest ≡ many
-  pub holds : table ≡ all-numbers rows done ++ drop (16 * k) old
+  pub holds : table ≡ each (numbers-of rows) done ++ drop (16 * k) old
 
 module _ {P : Payment → Type 0} {s tree order old : List ℕ} {root : Element} {many : ℕ} where
   pub start : Ordered s tree order root → many ≡ length (payments rows root) → All P (payments rows root) → Filled P s tree order old root many 0 old
-  unfolding all-numbers
+  unfolding each
   start o e h =
-      record { done = []; rest = payments rows root; split = refl; at-done = refl; stand = o .payments-at; each = h; as-many = omega (arith, e); holds = refl }
+      record { done = []; rest = payments rows root; split = refl; at-done = refl; stand = o .payments-at; each-holds = h; as-many = omega (arith, e); holds = refl }
 
   module _ {k : ℕ} {table : List ℕ} (f : Filled P s tree order old root many k table) where
-    pub all-filled : many ≤ k → table ≡ all-numbers rows (payments rows root) ++ drop (16 * length (payments rows root)) old
+    pub all-filled : many ≤ k → table ≡ each (numbers-of rows) (payments rows root) ++ drop (16 * length (payments rows root)) old
     all-filled h = go (f .rest) (f .split) (f .as-many)
       where
-        go : (rest : List Payment) → payments rows root ≡ f .done ++ rest → k + length rest ≡ many → table ≡ all-numbers rows (payments rows root) ++ drop (16 * length (payments rows root)) old
+        go : (rest : List Payment) → payments rows root ≡ f .done ++ rest → k + length rest ≡ many → table ≡ each (numbers-of rows) (payments rows root) ++ drop (16 * length (payments rows root)) old
         go [] e a = let d : payments rows root ≡ f .done = e ∙ append-nil (f .done) in rw (d, f .at-done) (f .holds)
         go (p ∷ ps) e a = absurd (omega (arith, a))
 
@@ -66,7 +60,7 @@ module _ {P : Payment → Type 0} {s tree order old : List ℕ} {root : Element}
     pub one-filled : {own block number : ℕ} {row after : List ℕ} → k < many → own ≡ getD order (16 + 3 * k) 0 → block ≡ getD order (17 + 3 * k) 0 → number ≡ getD order (18 + 3 * k) 0
         → ((p : Payment) (m n : ℕ) → Laid s tree (p .own) own m → Laid s tree (p .block) block n → P p → number ≡ p .block-number → row ≡ numbers-of rows p)
         → after ≡ paste table (16 * k) row 16 → Filled P s tree order old root many (k + 1) after
-    one-filled {own} {block} {number} {row} {after} l o b n r e = go (f .rest) (f .stand) (f .each) (f .split) (f .as-many)
+    one-filled {own} {block} {number} {row} {after} l o b n r e = go (f .rest) (f .stand) (f .each-holds) (f .split) (f .as-many)
       where
         go : (rest : List Payment) → PaymentsAt s tree order k rest → All P rest → payments rows root ≡ f .done ++ rest → k + length rest ≡ many
             → Filled P s tree order old root many (k + 1) after
@@ -82,11 +76,11 @@ module _ {P : Payment → Type 0} {s tree order old : List ℕ} {root : Element}
               split = d ∙ sym (append-assoc (f .done) (p ∷ []) ps);
               at-done = length-append (f .done) (p ∷ []) ∙ omega (arith, f .at-done);
               stand = t;
-              each = h;
+              each-holds = h;
               as-many = omega (arith, a);
               holds =
                   e ∙ rw (f .holds, is)
-                  (one-row (all-numbers rows (f .done)) (numbers-of rows p) old (16 * k) (all-numbers-length (f .done) ∙ ap (λ (m : ℕ). 16 * m) (f .at-done)) (numbers-length p) ∙
-                  ap (λ (x : List ℕ). x ++ drop (16 * k + 16) old) (sym (all-numbers-more (f .done) p)) ∙
-                  ap (λ (m : ℕ). all-numbers rows (f .done ++ (p ∷ [])) ++ drop m old) next-row);
+                  (one-row (each (numbers-of rows) (f .done)) (numbers-of rows p) old (16 * k) (all-numbers-length (f .done) ∙ ap (λ (m : ℕ). 16 * m) (f .at-done)) (numbers-length p) ∙
+                  ap (λ (x : List ℕ). x ++ drop (16 * k + 16) old) (sym (each-more (numbers-of rows) (f .done) p)) ∙
+                  ap (λ (m : ℕ). each (numbers-of rows) (f .done ++ (p ∷ [])) ++ drop m old) next-row);
             }

@@ -6,10 +6,11 @@ ghost use mathlib.Core.Option.{Option};
 ghost use Prim.Native.Nat.{ℕ, _+_, _*_, _/_, _%_, _≤_, _<_};
 ghost use lib.ListN.{length, drop};
 ghost use lib.Seq.{paste};
+ghost use Rattle.paper.specs.Bytes.{each};
 ghost use Rattle.paper.specs.Form.{Element};
 ghost use Rattle.paper.specs.Rows.{rows};
 ghost use Rattle.paper.specs.Payments.{Payment, payments};
-ghost use Rattle.paper.specs.Table.{part-of, numbers-of, all-numbers};
+ghost use Rattle.paper.specs.Table.{part-of, numbers-of};
 ghost use Rattle.paper.specs.Accepted.{All};
 ghost use Rattle.tree.specs.Laid.{Laid};
 ghost use Rattle.routes.specs.Finds.{Finds};
@@ -121,7 +122,7 @@ fn numbers_of(s: &[u8], tree: &[u16], own: usize, block: usize, number: usize) -
 
 // Each payment's numbers, in the order of the payments; every later number stays.
 pub fn fill(s: &[u8], tree: &[u16], order: &[u16], many: usize, table: &mut [u32])
-    ensures { λ r. ⌜ (length (now (s .entry)) ≤ 32768 → (root : Element) → Ordered (now (s .entry)) (now (tree .entry)) (now (order .entry)) root → many ≡ length (payments rows root) → many ≤ 64 → All Fitting (payments rows root) → 1024 ≤ length (now (table .entry)) → now (table .exit) ≡ all-numbers rows (payments rows root) ++ drop (16 * length (payments rows root)) (now (table .entry))) ⌝ }
+    ensures { λ r. ⌜ (length (now (s .entry)) ≤ 32768 → (root : Element) → Ordered (now (s .entry)) (now (tree .entry)) (now (order .entry)) root → many ≡ length (payments rows root) → many ≤ 64 → All Fitting (payments rows root) → 1024 ≤ length (now (table .entry)) → now (table .exit) ≡ each (numbers-of rows) (payments rows root) ++ drop (16 * length (payments rows root)) (now (table .entry))) ⌝ }
 {
     let mut k = 0;
     while k < many {
