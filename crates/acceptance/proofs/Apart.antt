@@ -1,4 +1,4 @@
--- In no group of document 01's table have two rows one name: one computed test over the table.
+-- In no group of the rows have two rows one name: one computed test over the table.
 use Prim.Native.Nat.{ℕ}
 use mathlib.Core.List.{List, [], _∷_}
 use mathlib.Core.Bool.{Bool, true, false, _&&_, _||_, not}
@@ -6,63 +6,60 @@ use mathlib.Core.Path.{_≡_, refl, sym, ap, _∙_}
 use lib.Dec.{eqb}
 use borrow.Author.Tests.{not-true}
 use Rattle.paper.specs.Bytes.{if_then_else_, bytes, same}
-use Rattle.paper.specs.Rows.{Holds, text, elements, Row, leaf, group, group-under, rows, row-of}
+use Rattle.paper.specs.Rows.{Holds, text, elements, Row, leaf, group, group-under, rows, name-in, name, row-of}
 use Rattle.paper.specs.Refusals.{rows-at}
 use Rattle.paper.specs.Accepted.{All, all-none, all-more}
 use Rattle.paper.proofs.Laws.{false-not-true, both-left, both-right, same-tests}
 use Rattle.acceptance.proofs.Arranged.{rows-of, Apart, apart-none, apart-more}
 use Rattle.acceptance.proofs.Rows.{RowsApart}
 
-module _ (table : List Row) (parent : ℕ) where
-  unlike : ℕ → List ℕ → Bool
-  unlike k [] = true
-  unlike k (j ∷ ks) = not (same (row-of table parent k .name) (row-of table parent j .name)) && unlike k ks
+unlike : ℕ → List ℕ → Bool
+unlike k [] = true
+unlike k (j ∷ ks) = not (same (name k) (name j)) && unlike k ks
 
-  all-unlike : List ℕ → Bool
-  all-unlike [] = true
-  all-unlike (k ∷ ks) = unlike k ks && all-unlike ks
+all-unlike : List ℕ → Bool
+all-unlike [] = true
+all-unlike (k ∷ ks) = unlike k ks && all-unlike ks
 
-  unlike-says : (k : ℕ) (ks : List ℕ) → unlike k ks ≡ true → All (λ j. row-of table parent k .name ≡ row-of table parent j .name → ⊥) ks
-  unfolding unlike
-  unlike-says k [] e = all-none
-  unlike-says k (j ∷ ks) e = all-more (differ (not-true alike (both-left (not alike) _ e))) (unlike-says k ks (both-right (not alike) _ e))
-    where
-      alike : Bool
-      alike = same (row-of table parent k .name) (row-of table parent j .name)
+unlike-says : (k : ℕ) (ks : List ℕ) → unlike k ks ≡ true → All (λ j. name k ≡ name j → ⊥) ks
+unfolding unlike
+unlike-says k [] e = all-none
+unlike-says k (j ∷ ks) e = all-more (differ (not-true alike (both-left (not alike) _ e))) (unlike-says k ks (both-right (not alike) _ e))
+  where
+    alike : Bool
+    alike = same (name k) (name j)
 
-      differ : same (row-of table parent k .name) (row-of table parent j .name) ≡ false → row-of table parent k .name ≡ row-of table parent j .name → ⊥
-      differ f g = false-not-true (sym f ∙ ap (λ (n : List ℕ). same (row-of table parent k .name) n) (sym g) ∙ same-tests _)
+    differ : same (name k) (name j) ≡ false → name k ≡ name j → ⊥
+    differ f g = false-not-true (sym f ∙ ap (λ (n : List ℕ). same (name k) n) (sym g) ∙ same-tests _)
 
-  all-unlike-says : (ks : List ℕ) → all-unlike ks ≡ true → Apart table parent ks
-  unfolding all-unlike
-  all-unlike-says [] e = apart-none
-  all-unlike-says (k ∷ ks) e = apart-more (unlike-says k ks (both-left (unlike k ks) _ e)) (all-unlike-says ks (both-right (unlike k ks) _ e))
+all-unlike-says : (ks : List ℕ) → all-unlike ks ≡ true → Apart ks
+unfolding all-unlike
+all-unlike-says [] e = apart-none
+all-unlike-says (k ∷ ks) e = apart-more (unlike-says k ks (both-left (unlike k ks) _ e)) (all-unlike-says ks (both-right (unlike k ks) _ e))
 
-module _ (table : List Row) where
-  test-holds : ℕ → Holds → Bool
-  test-holds row (text longest) = true
-  test-holds row (elements places) = all-unlike table row (rows-of places)
+test-holds : Holds → Bool
+test-holds (text longest) = true
+test-holds (elements places) = all-unlike (rows-of places)
 
-  test-rows : List Row → Bool
-  test-rows [] = true
-  test-rows (r ∷ rs) = test-holds (r .row) (r .holds) && test-rows rs
+test-rows : List Row → Bool
+test-rows [] = true
+test-rows (r ∷ rs) = test-holds (r .holds) && test-rows rs
 
-  holds-apart : (row : ℕ) (holds : Holds) → test-holds row holds ≡ true
-      → elim holds as (λ _. Type 0) [ text longest ↦ Unit {0} | elements places ↦ Apart table row (rows-of places) ]
-  unfolding test-holds
-  holds-apart row (text longest) e = tt
-  holds-apart row (elements places) e = all-unlike-says table row (rows-of places) e
+holds-apart : (holds : Holds) → test-holds holds ≡ true → elim holds as (λ _. Type 0) [ text longest ↦ Unit {0} | elements places ↦ Apart (rows-of places) ]
+unfolding test-holds
+holds-apart (text longest) e = tt
+holds-apart (elements places) e = all-unlike-says (rows-of places) e
 
-  tested-apart : (rs : List Row) (parent k : ℕ) → test-rows rs ≡ true → RowsApart table (row-of rs parent k)
-  unfolding row-of test-rows RowsApart
-  tested-apart [] parent k e = tt
-  tested-apart (r ∷ rs) parent k e =
-      go (eqb (r .row) k && (eqb (r .under) 0 || eqb (r .under) parent)) (tested-apart rs parent k (both-right (test-holds (r .row) (r .holds)) _ e))
-    where
-      go : (t : Bool) → RowsApart table (row-of rs parent k) → RowsApart table (if t then r else row-of rs parent k)
-      go true below = holds-apart (r .row) (r .holds) (both-left (test-holds (r .row) (r .holds)) _ e)
-      go false below = below
+tested-apart : (rs : List Row) (parent k : ℕ) → test-rows rs ≡ true → RowsApart (row-of rs parent k)
+unfolding row-of test-rows RowsApart
+tested-apart [] parent k e = tt
+tested-apart (r ∷ rs) parent k e =
+    go (eqb (r .row) k && (eqb (r .under) 0 || eqb (r .under) parent)) (tested-apart rs parent k (both-right (test-holds (r .holds)) _ e))
+  where
+    go : (t : Bool) → RowsApart (row-of rs parent k) → RowsApart (if t then r else row-of rs parent k)
+    go true below = holds-apart (r .holds) (both-left (test-holds (r .holds)) _ e)
+    go false below = below
 
-pub rows-apart : (parent k : ℕ) → RowsApart rows (row-of rows parent k)
-unfolding test-rows test-holds unlike all-unlike rows-of rows-at rows row-of leaf group group-under bytes same
-rows-apart parent k = tested-apart rows rows parent k refl
+pub rows-apart : (parent k : ℕ) → RowsApart (row-of rows parent k)
+unfolding test-rows test-holds unlike all-unlike rows-of rows-at rows name-in name leaf group group-under bytes same
+rows-apart parent k = tested-apart rows parent k refl

@@ -2,7 +2,12 @@ pub mod Arranged
 pub mod Rows
 pub mod Apart
 pub mod Stages
+pub mod OneWalk
+pub mod Given
 pub mod Outcome
 pub mod Accepts
+pub mod Order
 pub mod Routes
+pub mod Proper
+pub mod Present
 pub mod RightValues

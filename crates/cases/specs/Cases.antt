@@ -1,5 +1,6 @@
--- The cases that document 01 marks P, in its order, and the verdict on M1 itself, over the paper's definitions.
-use Prim.Native.Nat.{ℕ}
+-- The cases that are computed, over the definitions: those that were asked to be proved (P), in their order; the verdict on M1 itself, its table, its fields' parts
+-- and the host's bytes.
+use Prim.Native.Nat.{ℕ, zero, suc}
 use Prim.Native.String.{String}
 use mathlib.Core.List.{List, [], _∷_, _++_}
 use mathlib.Core.Bool.{Bool, true, false}
@@ -8,9 +9,12 @@ use Rattle.paper.specs.Bytes.{bytes}
 use Rattle.paper.specs.Form.{root-tag}
 use Rattle.paper.specs.Rows.{rows}
 use Rattle.paper.specs.Values.{amount, iban, date}
-use Rattle.paper.specs.Refusals.{Answer, accepted, refused, least-table, verdict}
-use Rattle.paper.specs.Regrouping.{answered, regrouping}
-use Rattle.paper.specs.Regrouping as moves
+use Rattle.paper.specs.Sizes.{least-table}
+use Rattle.paper.specs.Refusals.{MessageAnswer, accepted, refused, outcome-alone, outcome, verdict}
+use Rattle.paper.specs.Table.{table-after}
+use Rattle.paper.specs.Fields.{field-part}
+use Rattle.paper.specs.Regrouping.{RegroupingAnswer, answered, regrouping, differing-part}
+use Rattle.paper.specs.Host.{bytes-after}
 
 -- Message M1, line by line, with what its neighbours change.
 unfoldable pub header : (id count sum : String) → List ℕ
@@ -76,19 +80,32 @@ m3 =
 unfoldable pub list : (first second : ℕ) → List ℕ
 list first second = bytes "RGL" ++ (0 ∷ 1 ∷ 0 ∷ 2 ∷ 0 ∷ first ∷ 0 ∷ second ∷ [])
 
--- A case: the verdict on a message with a table that is long enough; what a value's rule says; the answer to a regrouping.
+-- A case: the verdict on a message with a table that is long enough; what a value's rule says; the answer to a regrouping; the table after a message, laid over
+-- an old one, and its bytes; the start and length of a field's part; those of the part that is handed back after a regrouping.
 pub data Case : Type 0 where
-  message : List ℕ → Answer → Case
+  message : List ℕ → MessageAnswer → Case
   value : (List ℕ → Bool) → String → Bool → Case
-  moved : (first second file : List ℕ) → moves.Answer → Case
+  moved : (first second file : List ℕ) → RegroupingAnswer → Case
+  table bytes-of : (message old after : List ℕ) → Case
+  field : (message : List ℕ) (payment field start size : ℕ) → Case
+  differing : (first second file : List ℕ) (start size : ℕ) → Case
 
 unfoldable pub Holds : Case → Type 0
 Holds (message s a) = verdict rows least-table s ≡ a
 Holds (value rule w allowed) = rule (bytes w) ≡ allowed
 Holds (moved first second file a) = regrouping rows first second file ≡ a
+Holds (table s old after) = table-after (outcome rows least-table s) old ≡ after
+Holds (bytes-of s old after) = bytes-after (outcome rows least-table s) old ≡ after
+Holds (field s payment number start size) = field-part (outcome-alone rows s) payment number ≡ record { start = start; size = size }
+Holds (differing first second file start size) = differing-part rows first second file ≡ record { start = start; size = size }
 
-unfoldable pub refused-with : (number element offset : ℕ) → Answer
+unfoldable pub refused-with : (number element offset : ℕ) → MessageAnswer
 refused-with number element offset = refused (record { number = number; element = element; offset = offset })
+
+-- so many times one number
+unfoldable pub times : ℕ → ℕ → List ℕ
+times zero n = []
+times (suc k) n = n ∷ times k n
 
 unfoldable pub p-cases : List Case
 p-cases =
@@ -119,3 +136,37 @@ p-cases =
     moved m1 m2 (list 1 0) (answered 0 0 0) ∷
     moved m1 m2 (list 0 1) (answered 20 0 10) ∷
     moved m1 m3 (list 0 1) (answered 20 1 8) ∷ []
+
+-- M1's 32 numbers, over a table of ones, and the same table as bytes; some parts of its fields; nothing is written after a refusal.
+unfoldable pub m1-numbers : List ℕ
+m1-numbers =
+    0 ∷ 662 ∷ 2 ∷ 779 ∷ 20 ∷ 741 ∷ 6 ∷ 604 ∷ 8 ∷ 341 ∷ 30 ∷ 479 ∷ 20 ∷ 12 ∷ 50 ∷ 630 ∷
+    0 ∷ 869 ∷ 2 ∷ 988 ∷ 20 ∷ 949 ∷ 7 ∷ 604 ∷ 8 ∷ 341 ∷ 30 ∷ 479 ∷ 20 ∷ 22 ∷ 60 ∷ 837 ∷ []
+
+unfoldable pub m1-bytes : List ℕ
+m1-bytes =
+    0 ∷ 0 ∷ 0 ∷ 0 ∷ 0 ∷ 0 ∷ 2 ∷ 150 ∷ 0 ∷ 0 ∷ 0 ∷ 2 ∷ 0 ∷ 0 ∷ 3 ∷ 11 ∷
+    0 ∷ 0 ∷ 0 ∷ 20 ∷ 0 ∷ 0 ∷ 2 ∷ 229 ∷ 0 ∷ 0 ∷ 0 ∷ 6 ∷ 0 ∷ 0 ∷ 2 ∷ 92 ∷
+    0 ∷ 0 ∷ 0 ∷ 8 ∷ 0 ∷ 0 ∷ 1 ∷ 85 ∷ 0 ∷ 0 ∷ 0 ∷ 30 ∷ 0 ∷ 0 ∷ 1 ∷ 223 ∷
+    0 ∷ 0 ∷ 0 ∷ 20 ∷ 0 ∷ 0 ∷ 0 ∷ 12 ∷ 0 ∷ 0 ∷ 0 ∷ 50 ∷ 0 ∷ 0 ∷ 2 ∷ 118 ∷
+    0 ∷ 0 ∷ 0 ∷ 0 ∷ 0 ∷ 0 ∷ 3 ∷ 101 ∷ 0 ∷ 0 ∷ 0 ∷ 2 ∷ 0 ∷ 0 ∷ 3 ∷ 220 ∷
+    0 ∷ 0 ∷ 0 ∷ 20 ∷ 0 ∷ 0 ∷ 3 ∷ 181 ∷ 0 ∷ 0 ∷ 0 ∷ 7 ∷ 0 ∷ 0 ∷ 2 ∷ 92 ∷
+    0 ∷ 0 ∷ 0 ∷ 8 ∷ 0 ∷ 0 ∷ 1 ∷ 85 ∷ 0 ∷ 0 ∷ 0 ∷ 30 ∷ 0 ∷ 0 ∷ 1 ∷ 223 ∷
+    0 ∷ 0 ∷ 0 ∷ 20 ∷ 0 ∷ 0 ∷ 0 ∷ 22 ∷ 0 ∷ 0 ∷ 0 ∷ 60 ∷ 0 ∷ 0 ∷ 3 ∷ 69 ∷ []
+
+unfoldable pub more-cases : List Case
+more-cases =
+    table m1 (times 34 1) (m1-numbers ++ (1 ∷ 1 ∷ [])) ∷
+    table (m1-with "M1" "3" "35.10") (times 34 1) (times 34 1) ∷
+    bytes-of m1 (times 131 1) (m1-bytes ++ (1 ∷ 1 ∷ 1 ∷ [])) ∷
+    field m1 0 4 399 10 ∷
+    field m1 0 1 0 0 ∷
+    field m1 1 6 479 20 ∷
+    field m1 1 7 550 8 ∷
+    field m1 1 8 604 8 ∷
+    field m1 1 11 917 5 ∷
+    field m1 1 17 0 0 ∷
+    field m1 2 6 0 0 ∷
+    field m3 1 8 0 0 ∷
+    differing m1 m2 (list 0 1) 662 2 ∷
+    differing m1 m2 (list 1 0) 0 0 ∷ []

@@ -5,7 +5,7 @@ use mathlib.Core.Path.{_≡_, refl, ap}
 use mathlib.Core.Logic.{_↔_}
 use Rattle.paper.specs.Form.{FirstImpossible}
 use Rattle.paper.specs.Form.{OfTheForm as IsOfTheForm}
-use Rattle.paper.specs.Reading.{Reading, root-is, stops-at, read}
+use Rattle.paper.specs.Computed.Reading.{Reading, root-is, stops-at, read}
 use Rattle.form.specs.Answers.{Says, answer}
 use Rattle.form.specs.declared.Form.{Form}
 use Rattle.form.specs.declared.Form.the-variants.{OfTheForm, RefusedAt}

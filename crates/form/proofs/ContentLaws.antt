@@ -12,7 +12,7 @@ use lib.Dec.{eqb}
 use borrow.Author.Tests.{eqb-true, eqb-false, ne-eqb, le-leb, lt-leb}
 use Rattle.paper.specs.Bytes.{bytes, is, from-to, one-of, white, text-byte, capital, letter, letter-or-digit}
 use Rattle.paper.specs.Form.{Element, Elements, holding-text, holding-elements, []ᵉ, _∷ᵉ_, end-tag}
-use Rattle.paper.specs.Reading.{Open, closed, State, angle, naming, blank, text, among, want, ending, step, ended, stops-at}
+use Rattle.paper.specs.Computed.Reading.{Open, closed, State, angle, naming, blank, in-text, after-child, want, ending, step, ended, stops-at}
 use Rattle.scans.specs.Scans.{from, Scanned, stops, Word, Tag, Opened, White, Name, Text, Child, ChildAt, TextOf, ContentOf, ElementAt}
 use Rattle.scans.specs.declared.Scan.{Scan}
 use Rattle.scans.specs.declared.Scan.the-variants.{To, StopsAt}
@@ -51,90 +51,90 @@ angle-ends s depth lt w q k p z n = go (decLe (length s) (p + 1))
 -- a `<` in an element, and text behind white space
 module _ (o : Open) (k : Element → State) (at b : ℕ) where
   blank-angle : (w : List ℕ) → b ≡ 60
-      → step (blank o w k) at b ≡ some (angle (suc (o .depth)) at (ending o (holding-text (closed o at) w) k) (λ t. among o (λ ts. t ∷ᵉ ts) k))
+      → step (blank o w k) at b ≡ some (angle (suc (o .depth)) at (ending o (holding-text (closed o at) w) k) (λ t. after-child o (λ ts. t ∷ᵉ ts) k))
   unfolding step white one-of is
   blank-angle w e = rw e
 
-  text-angle : (w : List ℕ) → b ≡ 60 → step (text o w k) at b ≡ some (want (47 ∷ []) (ending o (holding-text (closed o at) w) k))
+  text-angle : (w : List ℕ) → b ≡ 60 → step (in-text o w k) at b ≡ some (want (47 ∷ []) (ending o (holding-text (closed o at) w) k))
   unfolding step text-byte one-of is want
   text-angle w e = rw e
 
   among-angle : (f : Elements → Elements) → b ≡ 60
-      → step (among o f k) at b
-      ≡ some (angle (suc (o .depth)) at (ending o (holding-elements (closed o at) (f []ᵉ)) k) (λ t. among o (λ ts. f (t ∷ᵉ ts)) k))
+      → step (after-child o f k) at b
+      ≡ some (angle (suc (o .depth)) at (ending o (holding-elements (closed o at) (f []ᵉ)) k) (λ t. after-child o (λ ts. f (t ∷ᵉ ts)) k))
   unfolding step white one-of is
   among-angle f e = rw e
 
-  blank-text : (w : List ℕ) → white b ≡ false → is "<" b ≡ false → text-byte b ≡ true → step (blank o w k) at b ≡ some (text o (w ++ (b ∷ [])) k)
+  blank-text : (w : List ℕ) → white b ≡ false → is "<" b ≡ false → text-byte b ≡ true → step (blank o w k) at b ≡ some (in-text o (w ++ (b ∷ [])) k)
   unfolding step
   blank-text w e f g = rw (e, f, g)
 
 module _ (s : List ℕ) (o : Open) (k : Element → State) (p : ℕ) where
   -- text up to a byte that is none ends there
   pub text-ends : (w : List ℕ) → (p < length s → text-byte (getD s p 0) ≡ false)
-      → from s (text o w k) p ≡ from s (want (end-tag (o .name)) (k (holding-text (closed o p) w))) p
+      → from s (in-text o w k) p ≡ from s (want (end-tag (o .name)) (k (holding-text (closed o p) w))) p
   unfolding ended want step end-tag bytes is ending
   text-ends w t = go (decLe (length s) p)
     where
       at-byte : (h : p < length s) → (c : Bool) → is "<" (getD s p 0) ≡ c
-          → from s (text o w k) p ≡ from s (want (end-tag (o .name)) (k (holding-text (closed o p) w))) p
+          → from s (in-text o w k) p ≡ from s (want (end-tag (o .name)) (k (holding-text (closed o p) w))) p
       at-byte h true e =
           alike-next s _ _ p h (text-angle o k p (getD s p 0) w (eqb-true _ _ e))
           (want-step 60 (47 ∷ (o .name ++ bytes ">")) _ p (getD s p 0) (eqb-true _ _ e))
           (sym (want-append s (47 ∷ []) (o .name ++ bytes ">") (p + 1) _))
       at-byte h false e = alike-stuck s _ _ p h (rw (t h, e)) (want-stuck 60 (47 ∷ (o .name ++ bytes ">")) _ p (getD s p 0) (eqb-false _ _ e))
 
-      go : Dec (length s ≤ p) → from s (text o w k) p ≡ from s (want (end-tag (o .name)) (k (holding-text (closed o p) w))) p
+      go : Dec (length s ≤ p) → from s (in-text o w k) p ≡ from s (want (end-tag (o .name)) (k (holding-text (closed o p) w))) p
       go (yes l) = alike-short s _ _ p l refl refl
       go (no l) = let h : p < length s = omega arith in at-byte h (is "<" (getD s p 0)) refl
 
   -- white space that no child follows is text
-  pub blank-is-text : (w : List ℕ) → (p < length s → white (getD s p 0) ≡ false) → (Child s p → ⊥) → from s (blank o w k) p ≡ from s (text o w k) p
+  pub blank-is-text : (w : List ℕ) → (p < length s → white (getD s p 0) ≡ false) → (Child s p → ⊥) → from s (blank o w k) p ≡ from s (in-text o w k) p
   unfolding ended step is ending want
   blank-is-text w t n = go (decLe (length s) p)
     where
-      other : (h : p < length s) → (c : Bool) → text-byte (getD s p 0) ≡ c → is "<" (getD s p 0) ≡ false → from s (blank o w k) p ≡ from s (text o w k) p
+      other : (h : p < length s) → (c : Bool) → text-byte (getD s p 0) ≡ c → is "<" (getD s p 0) ≡ false → from s (blank o w k) p ≡ from s (in-text o w k) p
       other h true e f = alike-next s _ _ p h (blank-text o k p (getD s p 0) w (t h) f e) (text-step o w k p (getD s p 0) e) refl
       other h false e f = alike-stuck s _ _ p h (rw (t h, f, e)) (rw (e, f))
 
-      at-byte : (h : p < length s) → (c : Bool) → is "<" (getD s p 0) ≡ c → from s (blank o w k) p ≡ from s (text o w k) p
+      at-byte : (h : p < length s) → (c : Bool) → is "<" (getD s p 0) ≡ c → from s (blank o w k) p ≡ from s (in-text o w k) p
       at-byte h true e =
           alike-next s _ _ p h (blank-angle o k p (getD s p 0) w (eqb-true _ _ e)) (text-angle o k p (getD s p 0) w (eqb-true _ _ e))
           (angle-ends s (suc (o .depth)) p (o .name ++ bytes ">") _ _ p (eqb-true _ _ e) n
           ∙ want-append s (47 ∷ []) (o .name ++ bytes ">") (p + 1) _)
       at-byte h false e = other h (text-byte (getD s p 0)) refl e
 
-      go : Dec (length s ≤ p) → from s (blank o w k) p ≡ from s (text o w k) p
+      go : Dec (length s ≤ p) → from s (blank o w k) p ≡ from s (in-text o w k) p
       go (yes l) = alike-short s _ _ p l refl refl
       go (no l) = let h : p < length s = omega arith in at-byte h (is "<" (getD s p 0)) refl
 
   -- behind children, white space that no child follows comes before the end tag
   pub among-ends : (f : Elements → Elements) → (p < length s → white (getD s p 0) ≡ false) → (Child s p → ⊥)
-      → from s (among o f k) p ≡ from s (want (end-tag (o .name)) (k (holding-elements (closed o p) (f []ᵉ)))) p
+      → from s (after-child o f k) p ≡ from s (want (end-tag (o .name)) (k (holding-elements (closed o p) (f []ᵉ)))) p
   unfolding ended want step end-tag bytes is ending
   among-ends f t n = go (decLe (length s) p)
     where
       at-byte : (h : p < length s) → (c : Bool) → is "<" (getD s p 0) ≡ c
-          → from s (among o f k) p ≡ from s (want (end-tag (o .name)) (k (holding-elements (closed o p) (f []ᵉ)))) p
+          → from s (after-child o f k) p ≡ from s (want (end-tag (o .name)) (k (holding-elements (closed o p) (f []ᵉ)))) p
       at-byte h true e =
           alike-next s _ _ p h (among-angle o k p (getD s p 0) f (eqb-true _ _ e))
           (want-step 60 (47 ∷ (o .name ++ bytes ">")) _ p (getD s p 0) (eqb-true _ _ e))
           (angle-ends s (suc (o .depth)) p (o .name ++ bytes ">") _ _ p (eqb-true _ _ e) n)
       at-byte h false e = alike-stuck s _ _ p h (rw (t h, e)) (want-stuck 60 (47 ∷ (o .name ++ bytes ">")) _ p (getD s p 0) (eqb-false _ _ e))
 
-      go : Dec (length s ≤ p) → from s (among o f k) p ≡ from s (want (end-tag (o .name)) (k (holding-elements (closed o p) (f []ᵉ)))) p
+      go : Dec (length s ≤ p) → from s (after-child o f k) p ≡ from s (want (end-tag (o .name)) (k (holding-elements (closed o p) (f []ᵉ)))) p
       go (yes l) = alike-short s _ _ p l refl refl
       go (no l) = let h : p < length s = omega arith in at-byte h (is "<" (getD s p 0)) refl
 
   -- a child begins
   pub blank-child : (w : List ℕ) → Child s p
       → from s (blank o w k) p
-      ≡ from s (angle (suc (o .depth)) p (ending o (holding-text (closed o p) w) k) (λ t. among o (λ ts. t ∷ᵉ ts) k)) (p + 1)
+      ≡ from s (angle (suc (o .depth)) p (ending o (holding-text (closed o p) w) k) (λ t. after-child o (λ ts. t ∷ᵉ ts) k)) (p + 1)
   blank-child w c = from-next s _ p (omega (arith, c .within)) (blank-angle o k p (getD s p 0) w (c .angled))
 
   pub among-child : (f : Elements → Elements) → Child s p
-      → from s (among o f k) p
-      ≡ from s (angle (suc (o .depth)) p (ending o (holding-elements (closed o p) (f []ᵉ)) k) (λ t. among o (λ ts. f (t ∷ᵉ ts)) k)) (p + 1)
+      → from s (after-child o f k) p
+      ≡ from s (angle (suc (o .depth)) p (ending o (holding-elements (closed o p) (f []ᵉ)) k) (λ t. after-child o (λ ts. f (t ∷ᵉ ts)) k)) (p + 1)
   among-child f c = from-next s _ p (omega (arith, c .within)) (among-angle o k p (getD s p 0) f (c .angled))
 
 -- A whole text of an element; then what an element holds, by what stands first in it.
@@ -158,7 +158,7 @@ element-bounds {left} l x z = let g = reached (x .reads (13 - left) 0 (omega ari
 -- Children have been passed, from where what the element holds starts to an offset.
 abbrev Passes : (s : List ℕ) (left start at : ℕ) → Type 0
 Passes s left start at =
-    (o : Open) → o .depth + left ≡ 12 → (f : Elements → Elements) × ((k : Element → State) → from s (blank o [] k) start ≡ from s (among o f k) at)
+    (o : Open) → o .depth + left ≡ 12 → (f : Elements → Elements) × ((k : Element → State) → from s (blank o [] k) start ≡ from s (after-child o f k) at)
 
 -- Nothing has been passed yet, or children.
 pub record Passed (s : List ℕ) (left start at : ℕ) : Type 0 where
@@ -182,7 +182,7 @@ content-end {s} {name} {left} {start} {at} {p} {r = r} b w h n m g =
           let l = b .rises in
           let l′ = w .through .rises in
           first (omega arith)
-          (λ k. i k ∙ (w .through .stays (among o f′ k) (among-stays o f′ k)
+          (λ k. i k ∙ (w .through .stays (after-child o f′ k) (among-stays o f′ k)
           ∙ (among-ends s o k p f′ (w .other) (h .not-there n) ∙ ap (λ n. from s (want (end-tag n) (k (holding-elements (closed o p) (f′ []ᵉ)))) p) e)))
           (giving (λ _. holding-elements (closed o p) (f′ []ᵉ)) (λ k _. refl) (via (λ k. k (holding-elements (closed o p) (f′ []ᵉ))) g));
     }
@@ -192,7 +192,7 @@ module _ {s : List ℕ} {left start at p : ℕ} {c : Bool} {r : Scan} (b : Passe
     (x : ElementAt s (p + 1) left r) where
   Next : Type 0
   Next = (o : Open) → o .depth + left ≡ 12
-      → (f : Elements → Elements) × Scanned s start (blank o []) (λ k (t : Element). among o (λ ts. f (t ∷ᵉ ts)) k) r
+      → (f : Elements → Elements) × Scanned s start (blank o []) (λ k (t : Element). after-child o (λ ts. f (t ∷ᵉ ts)) k) r
 
   next : Next
   unfolding Next
@@ -205,7 +205,7 @@ module _ {s : List ℕ} {left start at p : ℕ} {c : Bool} {r : Scan} (b : Passe
           let l′ = w .through .rises in (
             (λ ts. ts),
             first (omega arith) (λ k. f k ∙ blank-child s o k p w′ (h .there e))
-                (via (λ k. (ending o (holding-text (closed o p) w′) k, λ t. among o (λ ts. t ∷ᵉ ts) k)) (x .reads (suc (o .depth)) p (omega arith))),
+                (via (λ k. (ending o (holding-text (closed o p) w′) k, λ t. after-child o (λ ts. t ∷ᵉ ts) k)) (x .reads (suc (o .depth)) p (omega arith))),
           )
 
       then : Passes s left start at → Next
@@ -214,8 +214,8 @@ module _ {s : List ℕ} {left start at p : ℕ} {c : Bool} {r : Scan} (b : Passe
           let l = b .rises in
           let l′ = w .through .rises in (
             f,
-            first (omega arith) (λ k. i k ∙ (w .through .stays (among o f k) (among-stays o f k) ∙ among-child s o k p f (h .there e)))
-                (via (λ k. (ending o (holding-elements (closed o p) (f []ᵉ)) k, λ t. among o (λ ts. f (t ∷ᵉ ts)) k)) (x .reads (suc (o .depth)) p (omega arith))),
+            first (omega arith) (λ k. i k ∙ (w .through .stays (after-child o f k) (among-stays o f k) ∙ among-child s o k p f (h .there e)))
+                (via (λ k. (ending o (holding-elements (closed o p) (f []ᵉ)) k, λ t. after-child o (λ ts. f (t ∷ᵉ ts)) k)) (x .reads (suc (o .depth)) p (omega arith))),
           )
 
   pub content-stops : {name : List ℕ} {n : ℕ} → r ≡ StopsAt n → ContentOf s name start left (StopsAt n)

@@ -11,7 +11,7 @@ use lib.Dec.{eqb}
 use borrow.Author.Tests.{eqb-true, eqb-false, ne-eqb}
 use Rattle.paper.specs.Bytes.{bytes, is, one-of, white}
 use Rattle.paper.specs.Form.{Element, root-tag, declaration}
-use Rattle.paper.specs.Reading.{opening, opened, before, after, want, in-root, step, ended, run, read, root-is}
+use Rattle.paper.specs.Computed.Reading.{opening, opened, before, after, want, in-root, step, ended, run, read, root-is}
 use Rattle.form.specs.Answers.{Says}
 use Rattle.scans.specs.Scans.{from, Scanned, Word, White, ContentOf, Prologue, RootAt}
 use Rattle.form.specs.declared.Form.the-variants.{OfTheForm, RefusedAt}

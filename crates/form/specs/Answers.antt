@@ -2,7 +2,7 @@
 use Prim.Native.Nat.{ℕ}
 use mathlib.Core.List.{List}
 use Rattle.paper.specs.Form.{OfTheForm as IsOfTheForm, FirstImpossible}
-use Rattle.paper.specs.Reading.{Reading, root-is, stops-at}
+use Rattle.paper.specs.Computed.Reading.{Reading, root-is, stops-at}
 use Rattle.form.specs.declared.Form.{Form}
 use Rattle.form.specs.declared.Form.the-variants.{OfTheForm, RefusedAt}
 

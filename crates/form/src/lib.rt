@@ -7,7 +7,7 @@ ghost use mathlib.Core.Bool.{false};
 ghost use Prim.Native.Nat.{_≤_, _<_};
 ghost use lib.ListN.{length, getD};
 ghost use Rattle.paper.specs.Bytes.{white};
-ghost use Rattle.paper.specs.Reading.{opening, before};
+ghost use Rattle.paper.specs.Computed.Reading.{opening, before};
 ghost use Rattle.form.specs.Answers.{Says};
 ghost use Rattle.scans.specs.Scans.{TextOf, ChildAt, ContentOf, ElementAt, Prologue, RootAt};
 

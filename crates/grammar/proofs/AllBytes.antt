@@ -7,8 +7,8 @@ use mathlib.Core.Path.{_≡_, refl}
 use native.Mathlib.Omega.{arith}
 use lib.Dec.{leb}
 use borrow.Author.Tests.{leb-true, le-leb, eqb-true}
-use Rattle.paper.specs.Bytes.{bytes, is, from-to, one-of, white, text-byte, capital, digit, letter, letter-or-digit, Every, none as all-done, more, every}
-use Rattle.paper.specs.Form.{Element, IsName, letter-and, root-tag, start-tag, amount-tag, end-tag, IsStartTag, root, amount, plain, IsElement, of-text, of-elements, no-more, one-more, declaration, absent, present, IsMessage, message, OfTheForm}
+use Rattle.paper.specs.Bytes.{bytes, is, from-to, one-of, white, text-byte, capital, digit, letter, letter-or-digit, Every, every-none as all-done, every-more, every}
+use Rattle.paper.specs.Form.{Element, IsName, letter-and, root-tag, start-tag, amount-tag, end-tag, IsStartTag, of-root, of-amount, of-any-other, IsElement, of-text, of-elements, no-more, one-more, declaration, no-declaration, one-declaration, IsMessage, whole, OfTheForm}
 use Rattle.grammar.proofs.Complete.{both}
 use Rattle.grammar.proofs.Sound.{either, white-text}
 
@@ -17,16 +17,16 @@ is-byte b = leb b 255
 
 every-append : {p : ℕ → Bool} {s t : List ℕ} → Every p s → Every p t → Every p (s ++ t)
 every-append all-done h = h
-every-append (more e es) h = more e (every-append es h)
+every-append (every-more e es) h = every-more e (every-append es h)
 
 every-as : {p q : ℕ → Bool} → ((b : ℕ) → p b ≡ true → q b ≡ true) → {s : List ℕ} → Every p s → Every q s
 every-as f all-done = all-done
-every-as f (more {b} e es) = more (f b e) (every-as f es)
+every-as f (every-more {b} e es) = every-more (f b e) (every-as f es)
 
 tested : (p : ℕ → Bool) (s : List ℕ) → every p s ≡ true → Every p s
 unfolding every
 tested p [] h = all-done
-tested p (b ∷ s) h = let (e, es) = both (p b) (every p s) h in more e (tested p s es)
+tested p (b ∷ s) h = let (e, es) = both (p b) (every p s) h in every-more e (tested p s es)
 
 -- each class is one of bytes
 below-byte : (z b : ℕ) → z ≤ 255 → leb b z ≡ true → is-byte b ≡ true
@@ -67,21 +67,21 @@ white-byte b h = text-is-byte b (white-text b h)
 
 -- names and tags
 name-bytes : {name : List ℕ} → IsName name → Every is-byte name
-name-bytes (letter-and {b} e es _) = more (letter-byte b e) (every-as letter-or-digit-byte es)
+name-bytes (letter-and {b} e es _) = every-more (letter-byte b e) (every-as letter-or-digit-byte es)
 
 tag-bytes : {depth : ℕ} {tag name currency : List ℕ} → IsStartTag depth tag name currency → Every is-byte tag × Every is-byte name
 unfolding root-tag start-tag amount-tag bytes is-byte every
-tag-bytes root = (tested is-byte root-tag refl, tested is-byte (bytes "Document") refl)
-tag-bytes (amount _ es) = (
+tag-bytes of-root = (tested is-byte root-tag refl, tested is-byte (bytes "Document") refl)
+tag-bytes (of-amount _ es) = (
   every-append (tested is-byte (bytes "<InstdAmt Ccy=\"") refl) (every-append (every-as capital-byte es) (tested is-byte (bytes "\">") refl)),
   tested is-byte
       (bytes "InstdAmt") refl,
 )
-tag-bytes (plain _ n _) = let h = name-bytes n in (more refl (every-append h (more refl all-done)), h)
+tag-bytes (of-any-other _ n _) = let h = name-bytes n in (every-more refl (every-append h (every-more refl all-done)), h)
 
 end-bytes : {name : List ℕ} → Every is-byte name → Every is-byte (end-tag name)
 unfolding end-tag bytes is-byte
-end-bytes h = more refl (more refl (every-append h (more refl all-done)))
+end-bytes h = every-more refl (every-more refl (every-append h (every-more refl all-done)))
 
 element-bytes : {depth at : ℕ} {one : List ℕ} {t : Element} → IsElement depth at one t → Every is-byte one
 element-bytes h =
@@ -94,13 +94,13 @@ element-bytes h =
 
 pub all-bytes : {s : List ℕ} {t : Element} → IsMessage s t → Every is-byte s
 unfolding declaration bytes is-byte every
-all-bytes (message absent w x z) = every-append (every-as white-byte w) (every-append (element-bytes x) (every-as white-byte z))
-all-bytes (message present w x z) =
+all-bytes (whole no-declaration w x z) = every-append (every-as white-byte w) (every-append (element-bytes x) (every-as white-byte z))
+all-bytes (whole one-declaration w x z) =
     every-append (tested is-byte declaration refl) (every-append (every-as white-byte w) (every-append (element-bytes x) (every-as white-byte z)))
 
 every-later : {p : ℕ → Bool} (s : List ℕ) {t : List ℕ} → Every p (s ++ t) → Every p t
 every-later [] h = h
-every-later (b ∷ s) (more e es) = every-later s es
+every-later (b ∷ s) (every-more e es) = every-later s es
 
 pub completed-by-bytes : (s rest : List ℕ) → OfTheForm (s ++ rest) → Every is-byte rest
 unfolding OfTheForm

@@ -10,9 +10,9 @@ use native.Mathlib.Omega.{arith}
 use lib.ListN.{length, drop, length-append}
 use lib.Dec.{eqb}
 use borrow.Author.Tests.{ne-eqb, eqb-true, le-leb}
-use Rattle.paper.specs.Bytes.{bytes, is, from-to, one-of, white, text-byte, capital, digit, letter, letter-or-digit, same, Every, none as all-done, more}
-use Rattle.paper.specs.Form.{Element, Elements, holding-text, holding-elements, []ᵉ, _∷ᵉ_, letter-and, root-tag, start-tag, amount-tag, end-tag, IsStartTag, root, amount, plain, head, IsElement, of-text, of-elements, no-more, one-more, declaration, IsDeclaration, absent, present, IsMessage, message}
-use Rattle.paper.specs.Reading.{Open, closed, State, opening, before, angle, naming, capitals, blank, text, among, after, want, ending, in-root, in-amount, named, step, ended, run, read, root-is}
+use Rattle.paper.specs.Bytes.{bytes, is, from-to, one-of, white, text-byte, capital, digit, letter, letter-or-digit, same, Every, every-none as all-done, every-more}
+use Rattle.paper.specs.Form.{Element, Elements, holding-text, holding-elements, []ᵉ, _∷ᵉ_, letter-and, root-tag, start-tag, amount-tag, end-tag, IsStartTag, of-root, of-amount, of-any-other, head, IsElement, of-text, of-elements, no-more, one-more, declaration, IsDeclaration, no-declaration, one-declaration, IsMessage, whole}
+use Rattle.paper.specs.Computed.Reading.{Open, closed, State, opening, before, angle, naming, capitals, blank, in-text, after-child, after, want, ending, in-root, in-amount, behind-name, step, ended, run, read, root-is}
 use Rattle.grammar.specs.Stays.{Stays}
 use Rattle.grammar.proofs.Leads.{Leads, here, next, on, at-offset, follow, run-over, want-leads, white-leads}
 
@@ -27,10 +27,10 @@ end-leads o t k at = want-leads (o .name ++ bytes ">") (k t) at
 
 -- text, from where it is known to be text, up to the end tag
 text-leads : (o : Open) (w : List ℕ) (k : Element → State) {s : List ℕ} (at : ℕ) → Every text-byte s
-    → Leads (text o w k) at (s ++ end-tag (o .name)) (k (holding-text (closed o (at + length s)) (w ++ s)))
+    → Leads (in-text o w k) at (s ++ end-tag (o .name)) (k (holding-text (closed o (at + length s)) (w ++ s)))
 unfolding step end-tag bytes is one-of text-byte
 text-leads o w k at all-done = rw (add-zero, append-nil) (next (next (end-leads o _ k _) refl) refl)
-text-leads o w k at (more {b} {s} e es) =
+text-leads o w k at (every-more {b} {s} e es) =
     rw (add-suc, ← suc-add, ← append-assoc w (b ∷ []) s) (on (text-leads o (w ++ (b ∷ [])) k (suc at) es) (rw e))
 
 -- what is text is no `<`
@@ -43,7 +43,7 @@ blank-text-leads : (o : Open) (w : List ℕ) (k : Element → State) {s : List �
     → Leads (blank o w k) at (s ++ end-tag (o .name)) (k (holding-text (closed o (at + length s)) (w ++ s)))
 unfolding step end-tag bytes is one-of white letter capital from-to
 blank-text-leads o w k at all-done = rw (add-zero, append-nil) (next (next (end-leads o _ k _) refl) refl)
-blank-text-leads o w k at (more {b} {s} e es) = go (white b) refl (blank-text-leads o (w ++ (b ∷ [])) k (suc at) es)
+blank-text-leads o w k at (every-more {b} {s} e es) = go (white b) refl (blank-text-leads o (w ++ (b ∷ [])) k (suc at) es)
   where
     go : (c : Bool) → white b ≡ c
         → Leads (blank o (w ++ (b ∷ [])) k) (suc at) (s ++ end-tag (o .name)) (k (holding-text (closed o (suc at + length s)) ((w ++ (b ∷ [])) ++ s)))
@@ -58,8 +58,8 @@ name-leads : (depth from : ℕ) (name : List ℕ) (room : ℕ) (k : Element → 
     → (left : ℕ) × Leads (naming depth from name room k) at s (naming depth from (name ++ s) left k)
 unfolding step
 name-leads depth from name room k at all-done l = (room, rw append-nil here)
-name-leads depth from name zero k at (more e es) l = absurd (omega arith)
-name-leads depth from name (suc room) k at (more {b} {s} e es) l =
+name-leads depth from name zero k at (every-more e es) l = absurd (omega arith)
+name-leads depth from name (suc room) k at (every-more {b} {s} e es) l =
     let (left, g) = name-leads depth from (name ++ (b ∷ [])) room k (suc at) es (omega arith) in
     (left, rw (← append-assoc name (b ∷ []) s) (on g (rw e)))
 
@@ -88,14 +88,14 @@ not-same s t n = go (same s t) refl
 -- a `>` ends a start tag, unless it is an amount's
 pub close-name : (depth from : ℕ) (name : List ℕ) (room : ℕ) (k : Element → State) (at : ℕ) → same name (bytes "InstdAmt") ≡ false
     → step (naming depth from name room k) at 62 ≡ some (blank (record { name = name; currency = []; at = from; start = suc at; depth = depth }) [] k)
-unfolding step named letter-or-digit letter digit capital from-to is
+unfolding step behind-name letter-or-digit letter digit capital from-to is
 close-name depth from name zero k at e = rw e
 close-name depth from name (suc room) k at e = rw e
 
 -- the start tag of an amount, behind its `<I`: up to the currency, the currency, the rest
 amount-name : (depth from : ℕ) (k : Element → State) (at : ℕ)
     → Leads (naming depth from (bytes "I") 31 k) at (bytes "nstdAmt Ccy=\"") (capitals 2 [] (in-amount depth from k))
-unfolding step named want bytes same letter-or-digit letter digit capital from-to is
+unfolding step behind-name want bytes same letter-or-digit letter digit capital from-to is
 amount-name depth from k at =
     next (next (next (next (next (next (next
     (next (want-leads (bytes "Ccy=\"") (capitals 2 [] (in-amount depth from k)) _) refl) refl) refl) refl) refl) refl) refl) refl
@@ -104,20 +104,20 @@ capitals-lead : (n : ℕ) (letters : List ℕ) {s : List ℕ} → Every capital 
     → Leads (capitals n letters f) at s (f (letters ++ s))
 unfolding step
 capitals-lead n letters all-done l f at = absurd (omega arith)
-capitals-lead zero letters (more {b} e all-done) l f at = on (here {q = f (letters ++ (b ∷ []))}) (rw e)
-capitals-lead zero letters (more e (more _ _)) l f at = absurd (omega arith)
-capitals-lead (suc n) letters (more {b} {s} e es) l f at =
+capitals-lead zero letters (every-more {b} e all-done) l f at = on (here {q = f (letters ++ (b ∷ []))}) (rw e)
+capitals-lead zero letters (every-more e (every-more _ _)) l f at = absurd (omega arith)
+capitals-lead (suc n) letters (every-more {b} {s} e es) l f at =
     rw (← append-assoc letters (b ∷ []) s) (on (capitals-lead n (letters ++ (b ∷ [])) es (omega arith) f (suc at)) (rw e))
 
 -- a start tag that is not the root's, behind its `<`
 tag-leads : {depth : ℕ} {tag name currency : List ℕ} → IsStartTag depth tag name currency → 1 < depth → depth ≤ 12
     → (at : ℕ) (q : State) (k : Element → State)
-    → (more : List ℕ) × (tag ≡ 60 ∷ more) × Leads (angle depth at q k) (suc at) more (blank (opened-by depth at tag name currency) [] k)
-unfolding step named in-amount want amount-tag start-tag bytes same letter-or-digit letter digit capital from-to is
-tag-leads root d _ at q k = absurd (omega arith)
-tag-leads {depth} (amount _ es) d e at q k =
+    → (every-more : List ℕ) × (tag ≡ 60 ∷ every-more) × Leads (angle depth at q k) (suc at) every-more (blank (opened-by depth at tag name currency) [] k)
+unfolding step behind-name in-amount want amount-tag start-tag bytes same letter-or-digit letter digit capital from-to is
+tag-leads of-root d _ at q k = absurd (omega arith)
+tag-leads {depth} (of-amount _ es) d e at q k =
     (_, refl, on (follow (amount-name depth at k _) (follow (capitals-lead 2 [] es refl _ _) (want-leads (bytes "\">") _ _))) (rw (le-leb depth 12 e)))
-tag-leads {depth} (plain _ (letter-and {b} {bs} eb ebs l) n) d e at q k =
+tag-leads {depth} (of-any-other _ (letter-and {b} {bs} eb ebs l) n) d e at q k =
     let (left, g) = name-leads depth at (b ∷ []) 31 k (suc (suc at)) ebs l in
     let z : suc (suc (suc at) + length bs) ≡ at + length (60 ∷ b ∷ (bs ++ (62 ∷ []))) = simp length-append (omega arith) in
     let o : Open = opened-by depth at (60 ∷ b ∷ (bs ++ (62 ∷ []))) (b ∷ bs) [] in
@@ -139,7 +139,7 @@ record Inside (depth at : ℕ) (one : List ℕ) (t : Element) : Type 0 where
 
 record Between (o : Open) (at : ℕ) (inner : List ℕ) (ts : Elements) : Type 0 where
   from-among : (f : Elements → Elements) (k : Element → State)
-      → Leads (among o f k) at (inner ++ end-tag (o .name)) (k (holding-elements (closed o (at + length inner)) (f ts)))
+      → Leads (after-child o f k) at (inner ++ end-tag (o .name)) (k (holding-elements (closed o (at + length inner)) (f ts)))
   from-blank : (t : Element) (us : Elements) → ts ≡ t ∷ᵉ us → (w : List ℕ) (k : Element → State)
       → Leads (blank o w k) at (inner ++ end-tag (o .name)) (k (holding-elements (closed o (at + length inner)) ts))
 
@@ -147,21 +147,21 @@ abbrev Inner : (depth at : ℕ) → List ℕ → Elements → Type 0
 Inner depth at inner ts = (o : Open) → depth ≡ suc (o .depth) → 1 ≤ o .depth → Between o at inner ts
 
 pub deep-enough : {depth : ℕ} {tag name currency : List ℕ} → IsStartTag depth tag name currency → 1 ≤ depth
-deep-enough root = omega arith
-deep-enough (amount d _) = omega arith
-deep-enough (plain d _ _) = omega arith
+deep-enough of-root = omega arith
+deep-enough (of-amount d _) = omega arith
+deep-enough (of-any-other d _ _) = omega arith
 
 behind : (at : ℕ) (s others : List ℕ) → s ≡ 60 ∷ others → suc at + length others ≡ at + length s
 behind at s others e = rw e (omega arith)
 
 child-leads : {depth at : ℕ} {one : List ℕ} {t : Element} → Inside depth at one t → 1 < depth → (q : State) (k : Element → State)
-    → (more : List ℕ) × (one ≡ 60 ∷ more) × Leads (angle depth at q k) (suc at) more (k t)
+    → (every-more : List ℕ) × (one ≡ 60 ∷ every-more) × Leads (angle depth at q k) (suc at) every-more (k t)
 child-leads {at} i d q k =
     let (others, e, g) = tag-leads (i .starts) d (i .deep) at q k in
     (others ++ i .rest, i .whole ∙ ap (λ s. s ++ i .rest) e, follow g (at-offset (sym (behind at _ others e)) (i .leads k)))
 
-text-inside : {depth at : ℕ} {tag name currency text : List ℕ} → depth ≤ 12 → IsStartTag depth tag name currency → Every text-byte text
-    → Inside depth at (tag ++ (text ++ end-tag name)) (holding-text (head name currency at tag text) text)
+text-inside : {depth at : ℕ} {tag name currency in-text : List ℕ} → depth ≤ 12 → IsStartTag depth tag name currency → Every text-byte in-text
+    → Inside depth at (tag ++ (in-text ++ end-tag name)) (holding-text (head name currency at tag in-text) in-text)
 unfolding head closed
 text-inside {depth} {at} {tag} {name} {currency} d s e = record {
   tag = tag;
@@ -193,9 +193,9 @@ elements-inside {depth} {at} {tag} {name} {currency} {inner} {t} {ts} d s h = re
 blank-white-leads : (o : Open) (w : List ℕ) (k : Element → State) {s : List ℕ} (at : ℕ) → Every white s → Leads (blank o w k) at s (blank o (w ++ s) k)
 unfolding step
 blank-white-leads o w k at all-done = rw append-nil here
-blank-white-leads o w k at (more {b} {s} e es) = rw (← append-assoc w (b ∷ []) s) (on (blank-white-leads o (w ++ (b ∷ [])) k (suc at) es) (rw e))
+blank-white-leads o w k at (every-more {b} {s} e es) = rw (← append-assoc w (b ∷ []) s) (on (blank-white-leads o (w ++ (b ∷ [])) k (suc at) es) (rw e))
 
-pub among-stays : (o : Open) (f : Elements → Elements) (k : Element → State) → Stays (among o f k)
+pub among-stays : (o : Open) (f : Elements → Elements) (k : Element → State) → Stays (after-child o f k)
 unfolding step Stays
 among-stays o f k at b e = rw e
 
@@ -218,11 +218,11 @@ no-more-between {at} {space} e o d _ = record {
 siblings : {depth at : ℕ} {one others : List ℕ} {t : Element} {ts : Elements} → Inside depth at one t → Inner depth (at + length one) others ts
     → (o : Open) → depth ≡ suc (o .depth) → 1 ≤ o .depth → (q : State) (f : Elements → Elements) (k : Element → State)
     → (rest : List ℕ) × (one ++ (others ++ end-tag (o .name)) ≡ 60 ∷ rest)
-    × Leads (angle (suc (o .depth)) at q (λ u. among o (λ us. f (u ∷ᵉ us)) k)) (suc at) rest
+    × Leads (angle (suc (o .depth)) at q (λ u. after-child o (λ us. f (u ∷ᵉ us)) k)) (suc at) rest
     (k (holding-elements (closed o (at + length one + length others)) (f (t ∷ᵉ ts))))
 siblings {at} {one} {others} {t} {ts} i h o d p q f k =
     let i′ : Inside (suc (o .depth)) at one t = rw d at i in
-    let (rest, e, g) = child-leads i′ (omega arith) q (λ u. among o (λ us. f (u ∷ᵉ us)) k) in (
+    let (rest, e, g) = child-leads i′ (omega arith) q (λ u. after-child o (λ us. f (u ∷ᵉ us)) k) in (
       rest ++ (others ++ end-tag (o .name)),
       ap (λ s. s ++ (others ++ end-tag (o .name))) e,
       follow g
@@ -256,9 +256,9 @@ inside h =
 -- the root, from where it may begin
 root-only : {depth : ℕ} {tag name currency : List ℕ} → IsStartTag depth tag name currency → depth ≡ 1
     → (tag ≡ root-tag) × (name ≡ bytes "Document") × (currency ≡ [])
-root-only root d = (refl, refl, refl)
-root-only (amount l _) d = absurd (omega arith)
-root-only (plain l _ _) d = absurd (omega arith)
+root-only of-root d = (refl, refl, refl)
+root-only (of-amount l _) d = absurd (omega arith)
+root-only (of-any-other l _ _) d = absurd (omega arith)
 
 -- what may stand before the root, and leads into it
 Enters : State → ℕ → Type 0
@@ -287,12 +287,12 @@ past-declaration = next (next (want-leads (drop 2 declaration) before 2) refl) r
 from-opening : {opening-text space : List ℕ} → IsDeclaration opening-text → Every white space
     → (q : State) × Leads opening 0 (opening-text ++ space) q × Enters q (length opening-text + length space)
 unfolding step
-from-opening absent all-done = (opening, here, enters-opening)
-from-opening absent (more {b} {s} e es) = (before, on (white-leads before before-stays 1 es) (rw e), enters-before _)
-from-opening {space} present es = (before, follow past-declaration (white-leads before before-stays _ es), enters-before _)
+from-opening no-declaration all-done = (opening, here, enters-opening)
+from-opening no-declaration (every-more {b} {s} e es) = (before, on (white-leads before before-stays 1 es) (rw e), enters-before _)
+from-opening {space} one-declaration es = (before, follow past-declaration (white-leads before before-stays _ es), enters-before _)
 
 message-leads : {s : List ℕ} {t : Element} → IsMessage s t → Leads opening 0 s (after t)
-message-leads (message {opening = d} {before = w} {one} {after = z} {t} hd hw h hz) =
+message-leads (whole {opening = d} {before = w} {one} {after = z} {t} hd hw h hz) =
     let (q, g, e) = from-opening hd hw in
     let l : length d + length w ≡ 0 + length (d ++ w) = simp length-append (omega arith) in
     rw (← append-assoc d w (one ++ z))

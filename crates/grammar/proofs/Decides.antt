@@ -12,7 +12,7 @@ use lib.Seq.{take-take}
 use lib.ListN.{length, take, drop, take-append-drop}
 use Rattle.paper.specs.Bytes.{bytes, is, from-to, one-of, white, text-byte, capital, digit, letter, letter-or-digit, same}
 use Rattle.paper.specs.Form.{Element, Elements, holding-text, holding-elements, []ᵉ, root-tag, OfTheForm, Begins, FirstImpossible}
-use Rattle.paper.specs.Reading.{Open, closed, State, fixed, opening, opened, before, angle, naming, capitals, blank, text, among, after, want, ending, in-root, in-amount, named, step, ended, run, read, Reading, root-is, stops-at}
+use Rattle.paper.specs.Computed.Reading.{Open, closed, State, fixed, opening, opened, before, angle, naming, capitals, blank, in-text, after-child, after, want, ending, in-root, in-amount, behind-name, step, ended, run, read, Reading, root-is, stops-at}
 use Rattle.grammar.proofs.Leads.{Leads, here, next, run-over, run-next, run-stuck, want-leads}
 use Rattle.grammar.proofs.Complete.{complete, close-name}
 use Rattle.grammar.proofs.Sound.{sound, stopped, later}
@@ -47,7 +47,7 @@ by-angle depth from q k v = by-byte _ 47 (λ _. q) (λ _. refl) (λ _. v)
 
 pub open-amount : (depth from : ℕ) (name : List ℕ) (room : ℕ) (k : Element → State) (at : ℕ) → same name (bytes "InstdAmt") ≡ true
     → step (naming depth from name room k) at 32 ≡ some (want (bytes "Ccy=\"") (capitals 2 [] (in-amount depth from k)))
-unfolding step named letter-or-digit letter digit capital from-to is
+unfolding step behind-name letter-or-digit letter digit capital from-to is
 open-amount depth from name zero k at e = rw e
 open-amount depth from name (suc room) k at e = rw e
 
@@ -58,11 +58,11 @@ module _ (k : Element → State) (v : (t : Element) → Viable (k t)) where
       by-byte _ 60 _ (λ _. refl)
       (λ at. by-angle (suc (o .depth)) at (ending o (holding-text (closed o at) w) k) _ (by-end o _ k (v _)))
 
-  by-text : (o : Open) (w : List ℕ) → Viable (text o w k)
+  by-text : (o : Open) (w : List ℕ) → Viable (in-text o w k)
   unfolding step text-byte one-of is want bytes
   by-text o w = by-byte _ 60 _ (λ _. refl) (λ at. by-want (bytes "/") (ending o (holding-text (closed o at) w) k) (by-end o _ k (v _)))
 
-  by-among : (o : Open) (f : Elements → Elements) → Viable (among o f k)
+  by-among : (o : Open) (f : Elements → Elements) → Viable (after-child o f k)
   unfolding step white one-of is
   by-among o f =
       by-byte _ 60 _ (λ _. refl)
@@ -93,8 +93,8 @@ viable (angle depth from q k) = by-angle depth from q k (viable q)
 viable (naming depth from name room k) = by-name k (λ t. viable (k t)) depth from name room
 viable (capitals n letters k) = by-capitals n letters k (λ s. viable (k s))
 viable (blank o w k) = by-blank k (λ t. viable (k t)) o w
-viable (text o w k) = by-text k (λ t. viable (k t)) o w
-viable (among o f k) = by-among k (λ t. viable (k t)) o f
+viable (in-text o w k) = by-text k (λ t. viable (k t)) o w
+viable (after-child o f k) = by-among k (λ t. viable (k t)) o f
 viable (after u) = λ at. ([], u, refl)
 
 -- what leads somewhere begins a text of the form

@@ -6,9 +6,9 @@ use mathlib.Core.Path.{_≡_, refl, sym, _∙_}
 use native.Mathlib.Nat.{add-suc, add-zero, suc-add}
 use lib.ListN.{length}
 use borrow.Author.Tests.{eq-eqb}
-use Rattle.paper.specs.Bytes.{white, Every, none as all-done, more}
+use Rattle.paper.specs.Bytes.{white, Every, every-none as all-done, every-more}
 use Rattle.grammar.specs.Stays.{Stays}
-use Rattle.paper.specs.Reading.{State, fixed, want, step, run, stops-at}
+use Rattle.paper.specs.Computed.Reading.{State, fixed, want, step, run, stops-at}
 
 -- from `q` at offset `at` the bytes lead to the last state
 pub data Leads : State → ℕ → List ℕ → State → Type 0 where
@@ -52,4 +52,4 @@ want-leads (b ∷ bs) q at = fixed-leads b bs q at
 pub white-leads : (q : State) → Stays q → {s : List ℕ} (at : ℕ) → Every white s → Leads q at s q
 unfolding Stays
 white-leads q h at all-done = here
-white-leads q h at (more {b} e es) = next (white-leads q h (suc at) es) (h at b e)
+white-leads q h at (every-more {b} e es) = next (white-leads q h (suc at) es) (h at b e)

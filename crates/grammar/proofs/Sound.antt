@@ -11,10 +11,10 @@ use native.Mathlib.Omega.{arith}
 use lib.ListN.{length, drop, length-append}
 use lib.Dec.{leb, eqb}
 use borrow.Author.Tests.{eqb-true, leb-true}
-use Rattle.paper.specs.Bytes.{if_then_else_, bytes, is, one-of, white, text-byte, capital, letter, letter-or-digit, same, Every, none as all-done, more}
-use Rattle.paper.specs.Form.{Element, Elements, holding-text, holding-elements, []ᵉ, _∷ᵉ_, IsName, letter-and, root-tag, start-tag, amount-tag, end-tag, IsStartTag, root, amount, plain, head, IsElement, of-text, of-elements, AreElements, no-more, one-more, declaration, IsDeclaration, absent, present, IsMessage, message}
+use Rattle.paper.specs.Bytes.{if_then_else_, bytes, is, one-of, white, text-byte, capital, letter, letter-or-digit, same, Every, every-none as all-done, every-more}
+use Rattle.paper.specs.Form.{Element, Elements, holding-text, holding-elements, []ᵉ, _∷ᵉ_, IsName, letter-and, root-tag, start-tag, amount-tag, end-tag, IsStartTag, of-root, of-amount, of-any-other, head, IsElement, of-text, of-elements, AreElements, no-more, one-more, declaration, IsDeclaration, no-declaration, one-declaration, IsMessage, whole}
 use Rattle.grammar.proofs.Complete.{opened-by, same-true, deep-enough}
-use Rattle.paper.specs.Reading.{Open, closed, State, fixed, opening, opened, before, angle, naming, capitals, blank, text, among, after, want, ending, in-root, in-amount, named, step, ended, run, read, Reading, root-is, stops-at}
+use Rattle.paper.specs.Computed.Reading.{Open, closed, State, fixed, opening, opened, before, angle, naming, capitals, blank, in-text, after-child, after, want, ending, in-root, in-amount, behind-name, step, ended, run, read, Reading, root-is, stops-at}
 
 -- what an open element may hold, and the element that it then is
 pub data Holds (o : Open) : List ℕ → Element → Type 0 where
@@ -51,11 +51,11 @@ Means (blank o w k) at s t =
     1 ≤ o .depth → at ≡ o .start + length w → Every white w
     → (held rest : List ℕ) × (u : Element) × (s ≡ held ++ (end-tag (o .name) ++ rest)) × Holds o (w ++ held) u
     × Means (k u) (at + length held + length (end-tag (o .name))) rest t
-Means (text o w k) at s t =
+Means (in-text o w k) at s t =
     at ≡ o .start + length w → Every text-byte w
     → (held rest : List ℕ) × (u : Element) × (s ≡ held ++ (end-tag (o .name) ++ rest)) × Holds o (w ++ held) u
     × Means (k u) (at + length held + length (end-tag (o .name))) rest t
-Means (among o f k) at s t =
+Means (after-child o f k) at s t =
     1 ≤ o .depth
     → (inner rest : List ℕ) × (ts : Elements) × (s ≡ inner ++ (end-tag (o .name) ++ rest)) × AreElements (suc (o .depth)) at inner ts
     × Means (k (holding-elements (closed o (at + length inner)) (f ts))) (at + length inner + length (end-tag (o .name))) rest t
@@ -102,13 +102,13 @@ space-body {at} {b} h m = record {
   one = m .one;
   behind = m .behind;
   whole = ap (λ s. b ∷ s) (m .whole);
-  is-space = more h (m .is-space);
+  is-space = every-more h (m .is-space);
   is-root = rw (add-suc, ← suc-add) (m .is-root);
   is-behind = m .is-behind;
 }
 
 body-message : {d s : List ℕ} {t : Element} → IsDeclaration d → Body (length d) s t → IsMessage (d ++ s) t
-body-message hd m = rw (m .whole) (message hd (m .is-space) (m .is-root) (m .is-behind))
+body-message hd m = rw (m .whole) (whole hd (m .is-space) (m .is-root) (m .is-behind))
 
 -- a start tag and what the element holds make it an element
 holds-element : {depth at : ℕ} {tag name currency s : List ℕ} {u : Element} → depth ≤ 12 → IsStartTag depth tag name currency
@@ -147,7 +147,7 @@ tagged {depth} {from} {tag} {name} {currency} k s t d h m = go (m (deep-enough h
 -- the root and what follows it
 root-body : (at : ℕ) (s : List ℕ) (t : Element) → Means (in-root at) (at + length root-tag) s t → Body at (root-tag ++ s) t
 unfolding in-root Means
-root-body at s t m = go (tagged after s t (omega arith) root m)
+root-body at s t m = go (tagged after s t (omega arith) of-root m)
   where
     go : One 1 at root-tag after (at + length root-tag) s t → Body at (root-tag ++ s) t
     go (one, rest, u, e, x, (w, z)) = record {
@@ -164,7 +164,7 @@ opening-back : (at b : ℕ) (s : List ℕ) (t : Element) → Goes (step opening 
 unfolding step Means is
 opening-back at b s t m z =
     choose (suc at) s t (white b) _ _ m
-    (λ h m. body-message absent (space-body h (rw z at m)))
+    (λ h m. body-message no-declaration (space-body h (rw z at m)))
     (λ _ m. choose (suc at) s t (is "<" b) _ _ m (λ h m. rw (eqb-true b 60 h) (m (rw z))) (λ _ m. absurd m))
 
 opened-back : (at b : ℕ) (s : List ℕ) (t : Element) → Goes (step opened at b) (suc at) s t → Means opened at (b ∷ s) t
@@ -173,11 +173,11 @@ opened-back at b s t m z =
     choose (suc at) s t (is "?" b) _ _ m
     (λ h m.
     let (rest, e, y) = want-means (drop 2 declaration) before 2 s t (rw z at m) in
-    rw (eqb-true b 63 h, e) (body-message {s = rest} present y))
+    rw (eqb-true b 63 h, e) (body-message {s = rest} one-declaration y))
     (λ _ m. choose (suc at) s t (is "D" b) _ _ m
     (λ h m.
     let (rest, e, y) = want-means (drop 2 root-tag) (in-root 0) 2 s t (rw z at m) in
-    rw (eqb-true b 68 h, e) (body-message {s = root-tag ++ rest} absent (root-body 0 rest t y)))
+    rw (eqb-true b 68 h, e) (body-message {s = root-tag ++ rest} no-declaration (root-body 0 rest t y)))
     (λ _ m. absurd m))
 
 before-back : (at b : ℕ) (s : List ℕ) (t : Element) → Goes (step before at b) (suc at) s t → Means before at (b ∷ s) t
@@ -204,8 +204,8 @@ angle-back depth from q k at b s t m d z =
     (λ _ m. choose (suc at) s t (is "/" b) _ _ m (λ h m. inl (s, rw (eqb-true b 47 h), m)) (λ _ m. absurd m))
 
 every-snoc : {p : ℕ → Bool} {s : List ℕ} (b : ℕ) → Every p s → p b ≡ true → Every p (s ++ (b ∷ []))
-every-snoc b all-done h = more h all-done
-every-snoc b (more e es) h = more e (every-snoc b es h)
+every-snoc b all-done h = every-more h all-done
+every-snoc b (every-more e es) h = every-more e (every-snoc b es h)
 
 name-more : {name : List ℕ} (b : ℕ) → IsName name → letter-or-digit b ≡ true → length name ≤ 31 → IsName (name ++ (b ∷ []))
 name-more b (letter-and {bs} e es l) h m = letter-and e (every-snoc b es h) (simp length-append (omega arith))
@@ -214,7 +214,7 @@ three-capitals : (depth : ℕ) (s : List ℕ) → 1 < depth → length s ≡ 3 �
 three-capitals depth [] d l es = absurd (omega arith)
 three-capitals depth (a ∷ []) d l es = absurd (omega arith)
 three-capitals depth (a ∷ b ∷ []) d l es = absurd (omega arith)
-three-capitals depth (a ∷ b ∷ c ∷ []) d l es = amount d es
+three-capitals depth (a ∷ b ∷ c ∷ []) d l es = of-amount d es
 three-capitals depth (a ∷ b ∷ c ∷ e ∷ s) d l es = absurd (omega arith)
 
 capitals-back : (n : ℕ) (letters : List ℕ) (k : List ℕ → State) (at b : ℕ) (s : List ℕ) (t : Element)
@@ -222,18 +222,18 @@ capitals-back : (n : ℕ) (letters : List ℕ) (k : List ℕ → State) (at b : 
 unfolding step Means
 capitals-back zero letters k at b s t m =
     choose (suc at) s t (capital b) _ _ m
-    (λ h m. (b ∷ [], s, refl, refl, more h all-done, rw add-one m))
+    (λ h m. (b ∷ [], s, refl, refl, every-more h all-done, rw add-one m))
     (λ _ m. absurd m)
 capitals-back (suc n) letters k at b s t m =
     choose (suc at) s t (capital b) _ _ m
     (λ h m.
     let (these, rest, e, l, es, y) = m in
-    (b ∷ these, rest, ap (λ r. b ∷ r) e, ap suc l, more h es, rw (add-suc, ← suc-add, ← append-assoc letters (b ∷ []) these) y))
+    (b ∷ these, rest, ap (λ r. b ∷ r) e, ap suc l, every-more h es, rw (add-suc, ← suc-add, ← append-assoc letters (b ∷ []) these) y))
     (λ _ m. absurd m)
 
 after-back : (u : Element) (at b : ℕ) (s : List ℕ) (t : Element) → Goes (step (after u) at b) (suc at) s t → Means (after u) at (b ∷ s) t
 unfolding step Means
-after-back u at b s t m = choose (suc at) s t (white b) _ _ m (λ h m. (more h (m .0), m .1)) (λ _ m. absurd m)
+after-back u at b s t m = choose (suc at) s t (white b) _ _ m (λ h m. (every-more h (m .0), m .1)) (λ _ m. absurd m)
 
 -- behind a name: the `>`, or the currency of an amount
 plain-back : (depth from : ℕ) (name : List ℕ) (k : Element → State) (at : ℕ) (s : List ℕ) (t : Element)
@@ -243,7 +243,7 @@ plain-back : (depth from : ℕ) (name : List ℕ) (k : Element → State) (at : 
 unfolding start-tag bytes
 plain-back depth from name k at s t d l z i n m =
     let y : suc at ≡ from + length (start-tag name) = simp length-append (omega arith) in
-    let x : One depth from (start-tag name) k (from + length (start-tag name)) s t = tagged k s t l (plain d i n) (rw y at m) in
+    let x : One depth from (start-tag name) k (from + length (start-tag name)) s t = tagged k s t l (of-any-other d i n) (rw y at m) in
     prefixed depth from (60 ∷ name) (62 ∷ []) k at (62 ∷ s) s t refl (rw (add-one, y) x)
 
 amount-closed : (depth from : ℕ) (these : List ℕ) (k : Element → State) (at : ℕ) (s : List ℕ) (t : Element) → depth ≤ 12
@@ -280,8 +280,8 @@ amount-back depth from k at s t d l z m = go (want-means (bytes "Ccy=\"") (capit
         (amount-lettered depth from k (at + 6) rest t d l (omega arith) (moved (later at 5) _ rest t y))
 
 named-back : (depth from : ℕ) (name : List ℕ) (k : Element → State) (at b : ℕ) (s : List ℕ) (t : Element) → 1 < depth → depth ≤ 12
-    → at ≡ suc from + length name → IsName name → Goes (named depth from name k at b) (suc at) s t → One depth from (60 ∷ name) k at (b ∷ s) t
-unfolding named is bytes same
+    → at ≡ suc from + length name → IsName name → Goes (behind-name depth from name k at b) (suc at) s t → One depth from (60 ∷ name) k at (b ∷ s) t
+unfolding behind-name is bytes same
 named-back depth from name k at b s t d l z i m =
     choose (suc at) s t (is ">" b) _ _ m
     (λ h m. choose (suc at) s t (same name (bytes "InstdAmt")) _ _ m
@@ -328,7 +328,7 @@ white-text b h =
 
 white-texts : {s : List ℕ} → Every white s → Every text-byte s
 white-texts all-done = all-done
-white-texts (more {b} e es) = more (white-text b e) (white-texts es)
+white-texts (every-more {b} e es) = every-more (white-text b e) (white-texts es)
 
 -- The text goes on with the rest of what an open element holds and its end tag, and then as the state says.
 abbrev Rest : (o : Open) (w : List ℕ) (k : Element → State) (at : ℕ) (s : List ℕ) (t : Element) → Type 0
@@ -365,7 +365,7 @@ text-ended o w k at s t z es m = go (ended-here o (holding-text (closed o at) w)
         ([], rest, holding-text (closed o at) w, e, rw append-nil h, rw add-zero y)
 
 text-back : (o : Open) (w : List ℕ) (k : Element → State) (at b : ℕ) (s : List ℕ) (t : Element)
-    → Goes (step (text o w k) at b) (suc at) s t → Means (text o w k) at (b ∷ s) t
+    → Goes (step (in-text o w k) at b) (suc at) s t → Means (in-text o w k) at (b ∷ s) t
 unfolding step Means is
 text-back o w k at b s t m z es =
     choose (suc at) s t (text-byte b) _ _ m
@@ -376,13 +376,13 @@ text-back o w k at b s t m z es =
 
 -- white space before elements belongs to them
 space-elements : {depth at b : ℕ} {s : List ℕ} {ts : Elements} → white b ≡ true → AreElements depth (suc at) s ts → AreElements depth at (b ∷ s) ts
-space-elements h (no-more es) = no-more (more h es)
+space-elements h (no-more es) = no-more (every-more h es)
 space-elements {depth} {at} {b} h (one-more {space} {one} {others} {t} {ts} es x xs) =
-    one-more {space = b ∷ space} {t = t} {ts = ts} (more h es) (rw (later at (length space)) at x) (rw (later at (length space)) at xs)
+    one-more {space = b ∷ space} {t = t} {ts = ts} (every-more h es) (rw (later at (length space)) at x) (rw (later at (length space)) at xs)
 
 spaces-elements : {depth at : ℕ} {w s : List ℕ} {ts : Elements} → Every white w → AreElements depth (at + length w) s ts → AreElements depth at (w ++ s) ts
 spaces-elements {at} all-done h = rw add-zero at h
-spaces-elements {at} (more {b} {s} e es) h = space-elements e (spaces-elements es (rw (later at (length s)) h))
+spaces-elements {at} (every-more {b} {s} e es) h = space-elements e (spaces-elements es (rw (later at (length s)) h))
 
 -- The text goes on with more elements and the end tag, and then as the state says.
 abbrev Others : (o : Open) (f : Elements → Elements) (k : Element → State) (at : ℕ) (s : List ℕ) (t : Element) → Type 0
@@ -392,7 +392,7 @@ Others o f k at s t =
 
 -- from a child's `<` on
 child-too : (o : Open) (f : Elements → Elements) (k : Element → State) (at : ℕ) (s : List ℕ) (t : Element)
-    → One (suc (o .depth)) at (60 ∷ []) (λ u. among o (λ us. f (u ∷ᵉ us)) k) (suc at) s t
+    → One (suc (o .depth)) at (60 ∷ []) (λ u. after-child o (λ us. f (u ∷ᵉ us)) k) (suc at) s t
     → 1 ≤ o .depth
     → (inner rest : List ℕ) × (u : Element) × (us : Elements) × (60 ∷ s ≡ inner ++ (end-tag (o .name) ++ rest)) × AreElements (suc (o .depth)) at inner (u ∷ᵉ us)
     × Means (k (holding-elements (closed o (at + length inner)) (f (u ∷ᵉ us)))) (at + length inner + length (end-tag (o .name))) rest t
@@ -411,7 +411,7 @@ child-too o f k at s t (one, rest₁, u, e, x, m) d = go (m d)
         ((60 ∷ one) ++ inner, rest, u, us, ap (λ r. 60 ∷ r) (rw (e, e₁) (sym (append-assoc one inner _))), one-more {space = []} {t = u} {ts = us} all-done x₁ xs₁, rw z at y)
 
 among-back : (o : Open) (f : Elements → Elements) (k : Element → State) (at b : ℕ) (s : List ℕ) (t : Element)
-    → Goes (step (among o f k) at b) (suc at) s t → Means (among o f k) at (b ∷ s) t
+    → Goes (step (after-child o f k) at b) (suc at) s t → Means (after-child o f k) at (b ∷ s) t
 unfolding step Means is
 among-back o f k at b s t m d =
     choose (suc at) s t (white b) _ _ m
@@ -430,7 +430,7 @@ among-back o f k at b s t m d =
         let (rest₁, e₁, y₁) = ended-here o (holding-elements (closed o at) (f []ᵉ)) k at rest t y in
         ([], rest₁, []ᵉ, rw e e₁, no-more all-done, rw add-zero y₁)
 
-    child : One (suc (o .depth)) at (60 ∷ []) (λ u. among o (λ us. f (u ∷ᵉ us)) k) (suc at) s t → Others o f k at (60 ∷ s) t
+    child : One (suc (o .depth)) at (60 ∷ []) (λ u. after-child o (λ us. f (u ∷ᵉ us)) k) (suc at) s t → Others o f k at (60 ∷ s) t
     child x = let (inner, rest, u, us, e, xs, y) = child-too o f k at s t x d in (inner, rest, u ∷ᵉ us, e, xs, y)
 
 blank-back : (o : Open) (w : List ℕ) (k : Element → State) (at b : ℕ) (s : List ℕ) (t : Element)
@@ -448,7 +448,7 @@ blank-back o w k at b s t m d z es =
     ended-too : ((rest : List ℕ) × (s ≡ 47 ∷ rest) × Means (ending o (holding-text (closed o at) w) k) (suc (suc at)) rest t) → Rest o w k at (60 ∷ s) t
     ended-too (rest, e, y) = rw e (text-ended o w k at rest t z (white-texts es) y)
 
-    child : One (suc (o .depth)) at (60 ∷ []) (λ u. among o (λ us. u ∷ᵉ us) k) (suc at) s t → Rest o w k at (60 ∷ s) t
+    child : One (suc (o .depth)) at (60 ∷ []) (λ u. after-child o (λ us. u ∷ᵉ us) k) (suc at) s t → Rest o w k at (60 ∷ s) t
     child x = elements (child-too o (λ us. us) k at s t x d)
       where
         elements : ((inner rest : List ℕ) × (u : Element) × (us : Elements) × (60 ∷ s ≡ inner ++ (end-tag (o .name) ++ rest))
@@ -470,8 +470,8 @@ back (angle depth from q k) = angle-back depth from q k
 back (naming depth from name room k) = naming-back depth from name room k
 back (capitals n letters k) = capitals-back n letters k
 back (blank o w k) = blank-back o w k
-back (text o w k) = text-back o w k
-back (among o f k) = among-back o f k
+back (in-text o w k) = text-back o w k
+back (after-child o f k) = among-back o f k
 back (after u) = after-back u
 
 pub stopped : {n : ℕ} {t : Element} → stops-at n ≡ root-is t → ⊥
@@ -489,8 +489,8 @@ end-means (angle depth from q k) at t e = absurd (stopped e)
 end-means (naming depth from name room k) at t e = absurd (stopped e)
 end-means (capitals n letters k) at t e = absurd (stopped e)
 end-means (blank o w k) at t e = absurd (stopped e)
-end-means (text o w k) at t e = absurd (stopped e)
-end-means (among o f k) at t e = absurd (stopped e)
+end-means (in-text o w k) at t e = absurd (stopped e)
+end-means (after-child o f k) at t e = absurd (stopped e)
 
 run-means : (q : State) (at : ℕ) (s : List ℕ) (t : Element) → run q at s ≡ root-is t → Means q at s t
 unfolding run

@@ -4,7 +4,7 @@ use mathlib.Core.Option.{some}
 use mathlib.Core.Bool.{true}
 use mathlib.Core.Path.{_≡_}
 use Rattle.paper.specs.Bytes.{white}
-use Rattle.paper.specs.Reading.{State, step}
+use Rattle.paper.specs.Computed.Reading.{State, step}
 
 -- a state that white space leaves as it is
 unfoldable pub Stays : State → Type 0

@@ -11,8 +11,8 @@ use lib.Dec.{eqb}
 use lib.ListN.{length, getD, take, drop, length-append, length-drop, List·getD-append}
 use lib.Seq.{drop-drop, drop-append-seam, take-append-seam, getD-drop, getD-append-seam}
 use borrow.Author.Tests.{eq-eqb, eqb-true}
-use Rattle.paper.specs.Bytes.{bytes, is, from-to, one-of, white, text-byte, capital, letter, digit, letter-or-digit, Every, none, more, every}
-use Rattle.paper.specs.Form.{Element, Elements, holding-text, holding-elements, []ᵉ, _∷ᵉ_, IsName, letter-and, root-tag, start-tag, amount-tag, end-tag, IsStartTag, root, amount, plain, head, IsElement, of-text, of-elements, no-more, one-more, declaration, IsDeclaration, absent, present, IsMessage, message}
+use Rattle.paper.specs.Bytes.{bytes, is, from-to, one-of, white, text-byte, capital, letter, digit, letter-or-digit, Every, every-none, every-more, every}
+use Rattle.paper.specs.Form.{Element, Elements, holding-text, holding-elements, []ᵉ, _∷ᵉ_, IsName, letter-and, root-tag, start-tag, amount-tag, end-tag, IsStartTag, of-root, of-amount, of-any-other, head, IsElement, of-text, of-elements, no-more, one-more, declaration, IsDeclaration, no-declaration, one-declaration, IsMessage, whole}
 use Rattle.paper.specs.Rows.{head-of}
 use Rattle.paper.proofs.Laws.{false-not-true, every-says}
 use Rattle.tree.specs.Laid.{between, Written}
@@ -65,17 +65,17 @@ apart-other one other b h e =
     false-not-true (sym z ∙ h)
 
 every-map : {p q : ℕ → Bool} {w : List ℕ} → ((b : ℕ) → p b ≡ true → q b ≡ true) → Every p w → Every q w
-every-map f none = none
-every-map f (more {b} e h) = more (f b e) (every-map f h)
+every-map f every-none = every-none
+every-map f (every-more {b} e h) = every-more (f b e) (every-map f h)
 
 every-append : {p : ℕ → Bool} {v w : List ℕ} → Every p v → Every p w → Every p (v ++ w)
-every-append none h = h
-every-append (more e g) h = more e (every-append g h)
+every-append every-none h = h
+every-append (every-more e g) h = every-more e (every-append g h)
 
 every-at : {p : ℕ → Bool} {w : List ℕ} → Every p w → (k : ℕ) → k < length w → p (getD w k 0) ≡ true
-every-at none k h = absurd (omega arith)
-every-at (more e h) zero l = e
-every-at (more e h) (suc k) l = every-at h k (omega arith)
+every-at every-none k h = absurd (omega arith)
+every-at (every-more e h) zero l = e
+every-at (every-more e h) (suc k) l = every-at h k (omega arith)
 
 -- the first of two bytes, behind bytes that are neither
 first-in : (s : List ℕ) (at i one other : ℕ) (w : List ℕ) (b : ℕ) (y : List ℕ) → drop at s ≡ w ++ b ∷ y → Every (apart one other) w
@@ -126,7 +126,7 @@ name-letters : {name : List ℕ} → IsName name → Every letter-or-digit name
 unfolding letter-or-digit
 name-letters (letter-and {b} e h l) =
     let f : (letter b || digit b) ≡ true = rw e in
-    more f h
+    every-more f h
 
 every-apart : (p : ℕ → Bool) (one other : ℕ) {name : List ℕ} → p one ≡ false → p other ≡ false → Every p name → Every (apart one other) name
 every-apart p one other f g h = every-map (apart-by p one other f g) h
@@ -187,7 +187,7 @@ plain-shape {name} n d =
       name-ends = inr refl;
       body = 60 ∷ name;
       bodied = refl;
-      body-apart = more refl (every-apart letter-or-digit 62 62 refl refl l);
+      body-apart = every-more refl (every-apart letter-or-digit 62 62 refl refl l);
       money = λ e. absurd (d e);
     }
   where
@@ -195,9 +195,9 @@ plain-shape {name} n d =
     initial-of (letter-and {b} {bs} e h k) = (b, bs, refl, e)
 
 shape-of : {depth : ℕ} {tag name currency : List ℕ} → IsStartTag depth tag name currency → Shape tag name currency
-shape-of root = root-shape
-shape-of (amount {a = a} {b = b} {c = c} l h) = amount-shape a b c h
-shape-of (plain l n d) = plain-shape n d
+shape-of of-root = root-shape
+shape-of (of-amount {a = a} {b = b} {c = c} l h) = amount-shape a b c h
+shape-of (of-any-other l n d) = plain-shape n d
 
 -- the tags, where they stand
 module _ (s : List ℕ) (at : ℕ) (tag name currency inner rest : List ℕ) (g : Shape tag name currency) (e : drop at s ≡ tag ++ (inner ++ (end-tag name ++ rest))) where
@@ -251,7 +251,7 @@ module _ (s : List ℕ) (at : ℕ) (tag name currency inner rest : List ℕ) (g 
         written = written;
         long = omega (arith, three);
         name-ends =
-            first-in s at _ 32 62 (60 ∷ name) (g .behind) (g .rest ++ (inner ++ (end-tag name ++ rest))) from-name (more refl (g .name-apart)) (g .name-ends)
+            first-in s at _ 32 62 (60 ∷ name) (g .behind) (g .rest ++ (inner ++ (end-tag name ++ rest))) from-name (every-more refl (g .name-apart)) (g .name-ends)
             (omega arith);
         tag-end = at + length (g .body);
         tag-ends =
@@ -377,7 +377,7 @@ module _ (before one after : List ℕ) (b : ℕ) (y : List ℕ) (o : one ≡ 60 
       let s = declaration ++ (before ++ (one ++ after)) in
       let tail = bytes "?xml version=\"1.0\" encoding=\"UTF-8\"?>" in
       behind-declaration {d = 0}
-      (first-in s 0 0 60 60 [] 60 (tail ++ (before ++ (one ++ after))) refl none (inl refl) refl)
+      (first-in s 0 0 60 60 [] 60 (tail ++ (before ++ (one ++ after))) refl every-none (inl refl) refl)
       refl
       (first-in s 1 _ 60 60 (tail ++ before) 60 (b ∷ (y ++ after))
       (ap (λ (w : List ℕ). tail ++ (before ++ (w ++ after))) o ∙ sym (append-assoc tail before (60 ∷ b ∷ (y ++ after))))
@@ -407,8 +407,8 @@ placed opening before one after {t} d h x =
   where
     at-root : {opening : List ℕ} → IsDeclaration opening → (b : ℕ) (y : List ℕ) → one ≡ 60 ∷ b ∷ y → letter b ≡ true
         → RootAt (opening ++ (before ++ (one ++ after))) (length opening + length before)
-    at-root absent b y o l = rw (zero-add (length before)) (root-first before one after b y o l h)
-    at-root present b y o l = root-behind before one after b y o l h
+    at-root no-declaration b y o l = rw (zero-add (length before)) (root-first before one after b y o l h)
+    at-root one-declaration b y o l = root-behind before one after b y o l h
 
 pub message-placed : {s : List ℕ} {t : Element} → IsMessage s t → Placed s t
-message-placed (message {opening} {before} {one} {after} d h x a) = placed opening before one after d h x
+message-placed (whole {opening} {before} {one} {after} d h x a) = placed opening before one after d h x

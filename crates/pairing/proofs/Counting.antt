@@ -1,6 +1,7 @@
 -- On lists alone: one list can be paired with another, each element of the first used once, exactly where each value stands equally often in both.
 use Prim.Native.Nat.{ℕ, zero, suc, _-_, _≤_, _<_}
 use native.Mathlib.Omega.{arith}
+use native.Mathlib.Decide.{ℕ-discrete}
 use mathlib.Core.List.{List, [], _∷_, map, List·Memᴰ, List·Memᴰ·head, List·Memᴰ·tail, List·Memᴰ·cases-cons, List·Memᴰ·not-nil}
 use mathlib.Core.Bool.{Bool, true, false}
 use mathlib.Core.Path.{_≡_, refl, sym, _∙_, ap, subst}
@@ -11,6 +12,96 @@ use borrow.Author.Tests.{ltb-true, ltb-false, lt-ltb, le-ltb}
 use Rattle.paper.specs.Bytes.{if_then_else_}
 use Rattle.paper.specs.Accepted.{All, all-none, all-more, Distinct, distinct-none, distinct-more}
 use Rattle.paper.proofs.Laws.{all-member, all-map, all-from}
+
+-- where another element stands in the shorter list, and back
+down : (i o : ℕ) → ℕ
+down i o = if ltb i o then o - 1 else o
+
+up : (i o : ℕ) → ℕ
+up i o = if ltb o i then o else suc o
+
+up-down : (i o : ℕ) → (o ≡ i → ⊥) → up i (down i o) ≡ o
+unfolding up down
+up-down i o n = go (ltb i o) refl
+  where
+    go : (t : Bool) → ltb i o ≡ t → up i (if ltb i o then o - 1 else o) ≡ o
+    go true e = let l = ltb-true i o e in rw (e, le-ltb (o - 1) i (omega (arith, l))) (omega (arith, l))
+    go false e = let l = ltb-false i o e in rw (e, lt-ltb o i (omega (arith, l, n)))
+
+up-not : (i o : ℕ) → up i o ≡ i → ⊥
+unfolding up
+up-not i o = go (ltb o i) refl
+  where
+    go : (t : Bool) → ltb o i ≡ t → (if t then o else suc o) ≡ i → ⊥
+    go true e f = let l = ltb-true o i e in omega (arith, l, f)
+    go false e f = let l = ltb-false o i e in omega (arith, l, f)
+
+up-apart : (i a b : ℕ) → up i a ≡ up i b → a ≡ b
+unfolding up
+up-apart i a b = go (ltb a i) (ltb b i) refl refl
+  where
+    go : (s t : Bool) → ltb a i ≡ s → ltb b i ≡ t → (if s then a else suc a) ≡ (if t then b else suc b) → a ≡ b
+    go true true p q e = e
+    go true false p q e = let l = ltb-true a i p in let m = ltb-false b i q in omega (arith, l, m, e)
+    go false true p q e = let l = ltb-false a i p in let m = ltb-true b i q in omega (arith, l, m, e)
+    go false false p q e = omega (arith, e)
+
+up-below : (i o n : ℕ) → i ≤ n → o < n → up i o < suc n
+unfolding up
+up-below i o n h k = go (ltb o i)
+  where
+    go : (t : Bool) → (if t then o else suc o) < suc n
+    go true = omega arith
+    go false = omega arith
+
+down-below : (i o n : ℕ) → i < suc n → o < suc n → (o ≡ i → ⊥) → down i o < n
+unfolding down
+down-below i o n h k d = go (ltb i o) refl
+  where
+    go : (t : Bool) → ltb i o ≡ t → (if t then o - 1 else o) < n
+    go true e = let l = ltb-true i o e in omega (arith, l)
+    go false e = let l = ltb-false i o e in omega (arith, l, d)
+
+member-map : {f : ℕ → ℕ} {o : ℕ} {os : List ℕ} → List·Memᴰ o (map f os) → (p : ℕ) × (o ≡ f p) × List·Memᴰ p os
+member-map {os = []} m = absurd (List·Memᴰ·not-nil m)
+member-map {f} {o} {os = p ∷ os} m =
+    ⊎-elim (λ e. (p, e, List·Memᴰ·head refl)) (λ n. let r = member-map {f = f} {os = os} n in (r .0, r .1, List·Memᴰ·tail (r .2))) (List·Memᴰ·cases-cons m)
+
+all-mapped : {P : ℕ → Type 0} (f : ℕ → ℕ) {os : List ℕ} → All (λ o. P (f o)) os → All P (map f os)
+all-mapped f all-none = all-none
+all-mapped f (all-more p h) = all-more p (all-mapped f h)
+
+all-both : {P Q R : ℕ → Type 0} → ((o : ℕ) → P o → Q o → R o) → {os : List ℕ} → All P os → All Q os → All R os
+all-both f all-none all-none = all-none
+all-both f (all-more p h) (all-more q k) = all-more (f _ p q) (all-both f h k)
+
+distinct-mapped : {Q : ℕ → Type 0} (f : ℕ → ℕ) → ((a b : ℕ) → Q a → Q b → f a ≡ f b → a ≡ b) → {os : List ℕ} → All Q os → Distinct os → Distinct (map f os)
+distinct-mapped f inj all-none distinct-none = distinct-none
+distinct-mapped {Q} f inj (all-more {a = o} {rest = os} q h) (distinct-more n d) =
+    distinct-more (λ m. let r = member-map {f = f} {o = f o} {os = os} m in n (here o os (r .0) (inj o (r .0) q (all-member h (r .2)) (r .1)) (r .2)))
+    (distinct-mapped f inj h d)
+  where
+    here : (o : ℕ) (os : List ℕ) (p : ℕ) → o ≡ p → List·Memᴰ p os → List·Memᴰ o os
+    here o os p e m = subst (λ (x : ℕ). List·Memᴰ x os) (sym e) m
+
+not-the-first : {o : ℕ} {os : List ℕ} → (List·Memᴰ o os → ⊥) → All (λ p. p ≡ o → ⊥) os
+not-the-first {o} {os} n = all-from (λ p m e. n (subst (λ (x : ℕ). List·Memᴰ x os) e m))
+
+-- Ordinals below n, no two alike and n of them, are all of them.
+pub every-ordinal : (n : ℕ) (os : List ℕ) → length os ≡ n → All (λ o. o < n) os → Distinct os → (k : ℕ) → k < n → List·Memᴰ k os
+every-ordinal zero os e h d k l = absurd (omega arith)
+every-ordinal (suc n) [] e h d k l = absurd (omega (arith, e))
+every-ordinal (suc n) (o ∷ os) e (all-more b h) (distinct-more m d) k l =
+    go (ℕ-discrete k o) (λ j i.
+    every-ordinal n (map (down o) os) (length-map os (down o) ∙ omega (arith, e)) (all-mapped (down o) (all-both (λ p x y. down-below o p n b x y) h (not-the-first m)))
+    (distinct-mapped (down o) (λ x y u v w. sym (up-down o x u) ∙ ap (up o) w ∙ up-down o y v) (not-the-first m) d) j i)
+  where
+    go : Dec (k ≡ o) → ((j : ℕ) → j < n → List·Memᴰ j (map (down o) os)) → List·Memᴰ k (o ∷ os)
+    go (yes f) below = List·Memᴰ·head f
+    go (no f) below =
+        let r = member-map {f = down o} {o = down o k} {os = os} (below (down o k) (down-below o k n b l f)) in
+        let same-one : k ≡ r .0 = sym (up-down o k f) ∙ ap (up o) (r .1) ∙ up-down o (r .0) (all-member (not-the-first m) (r .2)) in
+        List·Memᴰ·tail (subst (λ (x : ℕ). List·Memᴰ x os) (sym same-one) (r .2))
 
 module _ {A : Type 0} (same : A → A → Bool) (says : (a b : A) → same a b ≡ true → a ≡ b) (tests : (a : A) → same a a ≡ true) where
   unfoldable pub count : A → List A → ℕ
@@ -44,13 +135,6 @@ module _ {A : Type 0} (same : A → A → Bool) (says : (a b : A) → same a b �
       go false true e = e
       go false false e = e
 
-  -- where another element stands in the shorter list, and back
-  down : (i o : ℕ) → ℕ
-  down i o = if ltb i o then o - 1 else o
-
-  up : (i o : ℕ) → ℕ
-  up i o = if ltb o i then o else suc o
-
   getD-without : (d : A) (i o : ℕ) (l : List A) → i < length l → getD (without i l) o d ≡ getD l (up i o) d
   unfolding without up
   getD-without d i o [] h = absurd (omega arith)
@@ -63,48 +147,6 @@ module _ {A : Type 0} (same : A → A → Bool) (says : (a b : A) → same a b �
       go true e f = rw (lt-ltb (suc o) (suc i) (omega (arith, ltb-true o i e))) (f ∙ rw e)
       go false e f = rw (le-ltb (suc o) (suc i) (omega (arith, ltb-false o i e))) (f ∙ rw e)
 
-  up-down : (i o : ℕ) → (o ≡ i → ⊥) → up i (down i o) ≡ o
-  unfolding up down
-  up-down i o n = go (ltb i o) refl
-    where
-      go : (t : Bool) → ltb i o ≡ t → up i (if ltb i o then o - 1 else o) ≡ o
-      go true e = let l = ltb-true i o e in rw (e, le-ltb (o - 1) i (omega (arith, l))) (omega (arith, l))
-      go false e = let l = ltb-false i o e in rw (e, lt-ltb o i (omega (arith, l, n)))
-
-  up-not : (i o : ℕ) → up i o ≡ i → ⊥
-  unfolding up
-  up-not i o = go (ltb o i) refl
-    where
-      go : (t : Bool) → ltb o i ≡ t → (if t then o else suc o) ≡ i → ⊥
-      go true e f = let l = ltb-true o i e in omega (arith, l, f)
-      go false e f = let l = ltb-false o i e in omega (arith, l, f)
-
-  up-apart : (i a b : ℕ) → up i a ≡ up i b → a ≡ b
-  unfolding up
-  up-apart i a b = go (ltb a i) (ltb b i) refl refl
-    where
-      go : (s t : Bool) → ltb a i ≡ s → ltb b i ≡ t → (if s then a else suc a) ≡ (if t then b else suc b) → a ≡ b
-      go true true p q e = e
-      go true false p q e = let l = ltb-true a i p in let m = ltb-false b i q in omega (arith, l, m, e)
-      go false true p q e = let l = ltb-false a i p in let m = ltb-true b i q in omega (arith, l, m, e)
-      go false false p q e = omega (arith, e)
-
-  up-below : (i o n : ℕ) → i ≤ n → o < n → up i o < suc n
-  unfolding up
-  up-below i o n h k = go (ltb o i)
-    where
-      go : (t : Bool) → (if t then o else suc o) < suc n
-      go true = omega arith
-      go false = omega arith
-
-  down-below : (i o n : ℕ) → i < suc n → o < suc n → (o ≡ i → ⊥) → down i o < n
-  unfolding down
-  down-below i o n h k d = go (ltb i o) refl
-    where
-      go : (t : Bool) → ltb i o ≡ t → (if t then o - 1 else o) < n
-      go true e = let l = ltb-true i o e in omega (arith, l)
-      go false e = let l = ltb-false i o e in omega (arith, l, d)
-
   -- each ordinal names, in the first list, what stands in the second
   pub data Names (d : A) (xs : List A) : (os : List ℕ) (ys : List A) → Type 0 where
     names-none : Names d xs [] []
@@ -115,31 +157,6 @@ module _ {A : Type 0} (same : A → A → Bool) (says : (a b : A) → same a b �
     pub within : All (λ o. o < length xs) os
     pub once : Distinct os
     pub names : Names d xs os ys
-
-  member-map : {f : ℕ → ℕ} {o : ℕ} {os : List ℕ} → List·Memᴰ o (map f os) → (p : ℕ) × (o ≡ f p) × List·Memᴰ p os
-  member-map {os = []} m = absurd (List·Memᴰ·not-nil m)
-  member-map {f} {o} {os = p ∷ os} m =
-      ⊎-elim (λ e. (p, e, List·Memᴰ·head refl)) (λ n. let r = member-map {f = f} {os = os} n in (r .0, r .1, List·Memᴰ·tail (r .2))) (List·Memᴰ·cases-cons m)
-
-  all-mapped : {P : ℕ → Type 0} (f : ℕ → ℕ) {os : List ℕ} → All (λ o. P (f o)) os → All P (map f os)
-  all-mapped f all-none = all-none
-  all-mapped f (all-more p h) = all-more p (all-mapped f h)
-
-  all-both : {P Q R : ℕ → Type 0} → ((o : ℕ) → P o → Q o → R o) → {os : List ℕ} → All P os → All Q os → All R os
-  all-both f all-none all-none = all-none
-  all-both f (all-more p h) (all-more q k) = all-more (f _ p q) (all-both f h k)
-
-  distinct-mapped : {Q : ℕ → Type 0} (f : ℕ → ℕ) → ((a b : ℕ) → Q a → Q b → f a ≡ f b → a ≡ b) → {os : List ℕ} → All Q os → Distinct os → Distinct (map f os)
-  distinct-mapped f inj all-none distinct-none = distinct-none
-  distinct-mapped {Q} f inj (all-more {a = o} {rest = os} q h) (distinct-more n d) =
-      distinct-more (λ m. let r = member-map {f = f} {o = f o} {os = os} m in n (here o os (r .0) (inj o (r .0) q (all-member h (r .2)) (r .1)) (r .2)))
-      (distinct-mapped f inj h d)
-    where
-      here : (o : ℕ) (os : List ℕ) (p : ℕ) → o ≡ p → List·Memᴰ p os → List·Memᴰ o os
-      here o os p e m = subst (λ (x : ℕ). List·Memᴰ x os) (sym e) m
-
-  not-the-first : {o : ℕ} {os : List ℕ} → (List·Memᴰ o os → ⊥) → All (λ p. p ≡ o → ⊥) os
-  not-the-first {o} {os} n = all-from (λ p m e. n (subst (λ (x : ℕ). List·Memᴰ x os) e m))
 
   names-down : (d : A) (xs : List A) (o : ℕ) → o < length xs → {os : List ℕ} {ys : List A} → All (λ p. p ≡ o → ⊥) os → Names d xs os ys
       → Names d (without o xs) (map (down o) os) ys

@@ -10,7 +10,7 @@ use native.Mathlib.Omega.{arith}
 use borrow.Author.Tests.{eqb-true, eq-eqb}
 use lib.ListN.{length, length-append}
 use lib.Dec.{eqb}
-use Rattle.paper.specs.Bytes.{Every, none as every-none, more as every-more, every, same, each}
+use Rattle.paper.specs.Bytes.{Every, every-none, every-more, every, same, each}
 use Rattle.paper.specs.Values.{among}
 use Rattle.paper.specs.Refusals.{Refusal}
 use Rattle.paper.specs.Accepted.{All, all-none, all-more}

@@ -1,81 +1,121 @@
--- Acceptance, said without any order of checks (demand 2). It speaks of a message; that the lent table is long enough is asked beside it.
-use Prim.Native.Nat.{ℕ, _≤_, _<_, _^_}
-use mathlib.Core.List.{List, [], _∷_, List·Memᴰ}
-use mathlib.Core.Option.{Option, none, some}
+-- Acceptance (docs/RULES.md, 5; demand 2), said without any order of checks. It speaks of a message; that the lent table is long enough is asked beside it.
+use Prim.Native.Nat.{ℕ, _+_, _≤_, _<_, _^_}
+use mathlib.Core.List.{List, [], _∷_, map, List·Memᴰ}
+use mathlib.Core.Option.{Option, some}
 use mathlib.Core.Bool.{true}
 use mathlib.Core.Path.{_≡_}
 use mathlib.Core.Logic.{_⊎_}
 use lib.ListN.{length}
-use Rattle.paper.specs.Bytes.{is, value-character, Every}
+use Rattle.paper.specs.Sizes.{largest-message, most-blocks, most-payments}
+use Rattle.paper.specs.Bytes.{value-character, Every}
 use Rattle.paper.specs.Form.{Head, Element, IsMessage}
-use Rattle.paper.specs.Rows.{Row, row-of, Conforms}
+use Rattle.paper.specs.Rows.{Row, row-of, longest-of, Conforms}
 use Rattle.paper.specs.Values.{allowed, number, cents}
-use Rattle.paper.specs.Payments.{Payment, text-of, child, all-of, blocks, of-header, payments, in-payment, in-block, sum-of, total}
-use Rattle.paper.specs.Refusals.{longest-of, largest-message}
+use Rattle.paper.specs.Payments.{Payment, text-of, child, follow, all-of, blocks, of-header, payments, in-payment, in-block}
 
--- Each of a list, and no two of a list alike.
+-- Each of a list; each of a list with its own of another; no two of a list alike.
 pub data All {A : Type 0} (P : A → Type 0) : List A → Type 0 where
   all-none : All P []
   all-more : {a : A} {rest : List A} → P a → All P rest → All P (a ∷ rest)
+
+pub data Each {A B : Type 0} (R : A → B → Type 0) : List A → List B → Type 0 where
+  each-none : Each R [] []
+  each-more : {a : A} {b : B} {l : List A} {m : List B} → R a b → Each R l m → Each R (a ∷ l) (b ∷ m)
 
 pub data Distinct {A : Type 0} : List A → Type 0 where
   distinct-none : Distinct []
   distinct-more : {a : A} {rest : List A} → (List·Memᴰ a rest → ⊥) → Distinct rest → Distinct (a ∷ rest)
 
--- What makes a leaf's text right: for the rows alone, nothing; for the values its length, its characters, that it is not spaces alone, and its value.
+-- something stands there; a leaf stands there, and its text means this
+pub record There (o : Option Element) : Type 0 where
+  pub it : Element
+  pub is-it : o ≡ some it
+
+pub record Says {A : Type 0} (means : List ℕ → A) (o : Option Element) (a : A) : Type 0 where
+  pub leaf : Element
+  pub stands-there : o ≡ some leaf
+  pub says : means (text-of leaf) ≡ a
+
+-- What makes a leaf's text right: for the rows alone, nothing; for the values its length, its characters and its value.
 pub record AnyText (parent : ℕ) (r : Row) (h : Head) (w : List ℕ) : Type 0 where
 
 pub record RightText (parent : ℕ) (r : Row) (h : Head) (w : List ℕ) : Type 0 where
   pub not-empty : 1 ≤ length w
   pub not-too-long : length w ≤ longest-of (r .holds)
   pub characters : Every value-character w
-  pub not-blank : Every (is " ") w → ⊥
   pub value : allowed parent (r .row) (h .currency) w ≡ true
 
--- something stands there; a leaf, if it stands there, says a number (that the leaves meant below stand there is said by `rows`)
-pub record There (o : Option Element) : Type 0 where
-  pub it : Element
-  pub is-it : o ≡ some it
+-- Rows and values: the root conforms to row 1.
+unfoldable pub RowsKept : (profile : List Row) → Element → Type 0
+RowsKept profile root = Conforms profile AnyText root 0 (row-of profile 0 1)
 
-unfoldable pub Says : (List ℕ → ℕ) → Option Element → ℕ → Type 0
-Says means o n = (t : Element) → o ≡ some t → means (text-of t) ≡ n
+unfoldable pub ValuesRight : (profile : List Row) → Element → Type 0
+ValuesRight profile root = Conforms profile RightText root 0 (row-of profile 0 1)
 
-module _ (profile : List Row) where
-  -- Row 16 stands in the payment or in its block, and none of 16, 36, 34 stands in both.
-  unfoldable pub NotBoth : ℕ → Payment → Type 0
-  NotBoth k p = There (in-payment profile (k ∷ []) p) → There (in-block profile (k ∷ []) p) → ⊥
+-- Limits: so many blocks and payments.
+pub record LimitsKept (root : Element) : Type 0 where
+  pub few-blocks : length (blocks root) ≤ most-blocks
+  pub few-payments : length (payments root) ≤ most-payments
 
-  pub record Used (p : Payment) : Type 0 where
-    pub somewhere : There (in-payment profile (16 ∷ []) p) ⊎ There (in-block profile (16 ∷ []) p)
-    pub type-once : NotBoth 16 p
-    pub charges-once : NotBoth 36 p
-    pub debtor-once : NotBoth 34 p
+-- Usage: row 16 stands in the payment or in its block, and none of 16, 36, 34 stands in both.
+unfoldable pub NotBoth : ℕ → Payment → Type 0
+NotBoth k p = There (in-payment (k ∷ []) p) → There (in-block (k ∷ []) p) → ⊥
 
-  -- the texts of the blocks' ids
-  unfoldable pub ids : List Element → List (List ℕ)
-  ids [] = []
-  ids (b ∷ bs) = elim (child profile 10 11 b) [ none ↦ ids bs | some t ↦ text-of t ∷ ids bs ]
+pub record Used (p : Payment) : Type 0 where
+  pub somewhere : There (in-payment (16 ∷ []) p) ⊎ There (in-block (16 ∷ []) p)
+  pub type-once : NotBoth 16 p
+  pub charges-once : NotBoth 36 p
+  pub debtor-once : NotBoth 34 p
 
-  -- A block's count and sum are the true number and the exact sum in cents of its payments; the header's are those of the message.
-  pub record BlockCounts (b : Element) : Type 0 where
-    pub count : Says number (child profile 10 14 b) (length (all-of profile 10 37 b))
-    pub sum : Says cents (child profile 10 15 b) (sum-of profile (all-of profile 10 37 b))
+unfoldable pub UsageKept : Element → Type 0
+UsageKept root = All Used (payments root)
 
-  pub record AcceptedTree (root : Element) : Type 0 where
-    pub rows : Conforms profile AnyText root 0 (row-of profile 0 1)
-    pub blocks-limit : length (blocks profile root) ≤ 16
-    pub payments-limit : length (payments profile root) ≤ 64
-    pub values : Conforms profile RightText root 0 (row-of profile 0 1)
-    pub usage : All Used (payments profile root)
-    pub ids-distinct : Distinct (ids (blocks profile root))
-    pub total-fits : total profile root < 2 ^ 64
-    pub count : Says number (of-header profile 6 root) (length (payments profile root))
-    pub sum : Says cents (of-header profile 7 root) (total profile root)
-    pub block-counts : All BlockCounts (blocks profile root)
+-- Block ids: each block has one, and no two are alike, byte for byte.
+pub record IdsApart (root : Element) : Type 0 where
+  pub ids : List (List ℕ)
+  pub has-its-own : Each (λ b id. Says (λ w. w) (child 11 b) id) (blocks root) ids
+  pub distinct : Distinct ids
 
-  -- A message is accepted.
-  pub record Accepted (s : List ℕ) : Type 0 where
-    pub size : length s ≤ largest-message
-    pub root : Element
-    pub form : IsMessage s root
-    pub tree : AcceptedTree root
+-- The exact sum in cents of the instructed amounts of some payments' elements: each has its amount, and these are added.
+pub data Sum : List Element → ℕ → Type 0 where
+  sum-none : Sum [] 0
+  sum-more : {t : Element} {ts : List Element} {amount rest : ℕ} → Says cents (follow (41 ∷ 42 ∷ []) t) amount → Sum ts rest
+      → Sum (t ∷ ts) (amount + rest)
+
+-- The total of the amounts is not above 64 bits.
+pub record TotalFits (root : Element) : Type 0 where
+  pub cents : ℕ
+  pub is-total : Sum (map (λ p. p .own) (payments root)) cents
+  pub fits : cents < 2 ^ 64
+
+-- What stands before the counts.
+pub record RightButCounts (profile : List Row) (root : Element) : Type 0 where
+  pub rows : RowsKept profile root
+  pub limits : LimitsKept root
+  pub values : ValuesRight profile root
+  pub usage : UsageKept root
+  pub ids : IdsApart root
+  pub total : TotalFits root
+
+-- A count and a sum that are stated are the true number of some payments' elements and the exact sum of their amounts in cents.
+pub record Truthful (stated-count stated-sum : Option Element) (ts : List Element) : Type 0 where
+  pub count-is : Says number stated-count (length ts)
+  pub sum : ℕ
+  pub is-sum : Sum ts sum
+  pub sum-is : Says cents stated-sum sum
+
+-- Those of the header are those of the whole message, those of each block those of its payments.
+pub record CountsTrue (root : Element) : Type 0 where
+  pub of-message : Truthful (of-header 6 root) (of-header 7 root) (map (λ p. p .own) (payments root))
+  pub of-blocks : All (λ b. Truthful (child 14 b) (child 15 b) (all-of 37 b)) (blocks root)
+
+pub record AcceptedTree (profile : List Row) (root : Element) : Type 0 where
+  pub but-counts : RightButCounts profile root
+  pub counts : CountsTrue root
+
+-- A message is accepted.
+pub record Accepted (profile : List Row) (s : List ℕ) : Type 0 where
+  pub size : length s ≤ largest-message
+  pub root : Element
+  pub form : IsMessage s root
+  pub tree : AcceptedTree profile root

@@ -1,4 +1,4 @@
--- The answers of the code are enums. This gives the paper's number and values for each of their cases.
+-- The answers of the code are enums. This gives the rules' number and values for each of their cases.
 use Prim.Native.Nat.{ℕ}
 use mathlib.Core.Option.{Option, none, some}
 use Rattle.paper.specs.declared.Fault.{Fault}
@@ -9,9 +9,9 @@ use Rattle.paper.specs.declared.Verdict.{Verdict}
 use Rattle.paper.specs.declared.Verdict.the-variants.{Accepted, Refused}
 use Rattle.paper.specs.declared.Regrouping.{Regrouping}
 use Rattle.paper.specs.declared.Regrouping.the-variants as regrouping
-use Rattle.paper.specs.Refusals.{Refusal, Answer, refused, accepted, largest-message}
-use Rattle.paper.specs.Regrouping.{message-refused, answered}
-use Rattle.paper.specs.Regrouping as moves
+use Rattle.paper.specs.Sizes.{largest-message}
+use Rattle.paper.specs.Refusals.{Refusal, MessageAnswer, refused, accepted}
+use Rattle.paper.specs.Regrouping.{RegroupingAnswer, message-refused, answered}
 
 unfoldable pub numbered : (number element offset : ℕ) → Refusal
 numbered number element offset = record { number = number; element = element; offset = offset }
@@ -37,17 +37,17 @@ unfoldable pub refusal-found : Finding → Option Refusal
 refusal-found finding.Nothing = none
 refusal-found (finding.Refused fault) = some (refusal-of fault)
 
-unfoldable pub answer-of : Verdict → Answer
-answer-of (Accepted blocks payments cents) = accepted blocks payments cents
-answer-of (Refused fault) = refused (refusal-of fault)
+unfoldable pub verdict-says : Verdict → MessageAnswer
+verdict-says (Accepted blocks payments cents) = accepted blocks payments cents
+verdict-says (Refused fault) = refused (refusal-of fault)
 
-unfoldable pub regrouping-of : Regrouping → moves.Answer
-regrouping-of regrouping.Accepted = answered 0 0 0
-regrouping-of (regrouping.FirstRefused fault) = message-refused 1 (refusal-of fault)
-regrouping-of (regrouping.SecondRefused fault) = message-refused 2 (refusal-of fault)
-regrouping-of regrouping.NumbersOfPaymentsDiffer = answered 15 0 0
-regrouping-of regrouping.ListNotOfTheForm = answered 16 0 0
-regrouping-of regrouping.CountNotTheNumberOfPayments = answered 17 0 0
-regrouping-of (regrouping.OrdinalTooLarge k) = answered 18 k 0
-regrouping-of (regrouping.NamedBefore k) = answered 19 k 0
-regrouping-of (regrouping.FieldsDiffer k field) = answered 20 k field
+unfoldable pub regrouping-says : Regrouping → RegroupingAnswer
+regrouping-says regrouping.Accepted = answered 0 0 0
+regrouping-says (regrouping.FirstRefused fault) = message-refused 1 (refusal-of fault)
+regrouping-says (regrouping.SecondRefused fault) = message-refused 2 (refusal-of fault)
+regrouping-says regrouping.NumbersOfPaymentsDiffer = answered 15 0 0
+regrouping-says regrouping.ListNotOfTheForm = answered 16 0 0
+regrouping-says regrouping.CountNotTheNumberOfPayments = answered 17 0 0
+regrouping-says (regrouping.OrdinalTooLarge k) = answered 18 k 0
+regrouping-says (regrouping.NamedBefore k) = answered 19 k 0
+regrouping-says (regrouping.FieldsDiffer k field) = answered 20 k field

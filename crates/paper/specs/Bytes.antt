@@ -1,4 +1,4 @@
--- Bytes and characters. A text is a list of bytes, and a byte is its number.
+-- Bytes and characters (docs/RULES.md, 2 and 4). A text is a list of bytes, and a byte is its number.
 use Prim.Native.Nat.{ℕ}
 use Prim.Native.Char.{Char, code}
 use Prim.Native.String.{String, [] as []ˢ, _∷_ as _∷ˢ_}
@@ -58,8 +58,8 @@ value-character b = letter-or-digit b || one-of "/-?:().,'+ " b
 
 -- Each byte of a text is of a kind: as a statement, and as a test.
 pub data Every (p : ℕ → Bool) : List ℕ → Type 0 where
-  none : Every p []
-  more : {b : ℕ} {s : List ℕ} → p b ≡ true → Every p s → Every p (b ∷ s)
+  every-none : Every p []
+  every-more : {b : ℕ} {s : List ℕ} → p b ≡ true → Every p s → Every p (b ∷ s)
 
 unfoldable pub every : (ℕ → Bool) → List ℕ → Bool
 every p [] = true

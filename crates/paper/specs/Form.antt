@@ -1,4 +1,4 @@
--- The written form (refusal 2), as a grammar. Each rule gives a text and what it is the text of: an element with its offsets.
+-- The written form (docs/RULES.md, 2), as a grammar. Each rule gives a text and what it is the text of: an element with its offsets.
 use Prim.Native.Nat.{ℕ, suc, _+_, _≤_, _<_}
 use mathlib.Core.List.{List, [], _∷_, _++_}
 use mathlib.Core.Bool.{true}
@@ -45,10 +45,10 @@ end-tag name = bytes "</" ++ (name ++ bytes ">")
 
 -- The start tag of an element at a depth: the tag, the name and the currency. The root's depth is 1.
 pub data IsStartTag : (depth : ℕ) (tag name currency : List ℕ) → Type 0 where
-  root : IsStartTag 1 root-tag (bytes "Document") []
-  amount : {depth : ℕ} {a b c : ℕ} → 1 < depth → Every capital (a ∷ b ∷ c ∷ [])
+  of-root : IsStartTag 1 root-tag (bytes "Document") []
+  of-amount : {depth : ℕ} {a b c : ℕ} → 1 < depth → Every capital (a ∷ b ∷ c ∷ [])
       → IsStartTag depth (amount-tag (a ∷ b ∷ c ∷ [])) (bytes "InstdAmt") (a ∷ b ∷ c ∷ [])
-  plain : {depth : ℕ} {name : List ℕ} → 1 < depth → IsName name → name ≢ bytes "InstdAmt" → IsStartTag depth (start-tag name) name []
+  of-any-other : {depth : ℕ} {name : List ℕ} → 1 < depth → IsName name → name ≢ bytes "InstdAmt" → IsStartTag depth (start-tag name) name []
 
 -- the head of an element at an offset, by its start tag and the length of what it holds
 unfoldable pub head : (name currency : List ℕ) (at : ℕ) (tag held : List ℕ) → Head
@@ -75,12 +75,12 @@ unfoldable pub declaration : List ℕ
 declaration = bytes "<?xml version=\"1.0\" encoding=\"UTF-8\"?>"
 
 pub data IsDeclaration : List ℕ → Type 0 where
-  absent : IsDeclaration []
-  present : IsDeclaration declaration
+  no-declaration : IsDeclaration []
+  one-declaration : IsDeclaration declaration
 
 -- A message of the form, and its root: perhaps a declaration, white space, the root, white space.
 pub data IsMessage : List ℕ → Element → Type 0 where
-  message : {opening before one after : List ℕ} {t : Element} → IsDeclaration opening → Every white before
+  whole : {opening before one after : List ℕ} {t : Element} → IsDeclaration opening → Every white before
       → IsElement 1 (length opening + length before) one t → Every white after → IsMessage (opening ++ (before ++ (one ++ after))) t
 
 unfoldable pub OfTheForm : List ℕ → Type 0

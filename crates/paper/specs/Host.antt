@@ -1,9 +1,8 @@
--- The payment host calls verdict and regrouping on byte slices.
+-- The payment host calls verdict and regrouping on byte slices (docs/RULES.md, 10).
 use Prim.Native.Nat.{ℕ, _/_, _%_}
 use mathlib.Core.List.{List, [], _∷_}
 use lib.ListN.{length}
 use Rattle.paper.specs.Bytes.{each}
-use Rattle.paper.specs.Rows.{Row}
 use Rattle.paper.specs.Refusals.{Outcome}
 use Rattle.paper.specs.Table.{over, written}
 
@@ -16,5 +15,5 @@ unfoldable pub numbers-held : (table : List ℕ) → ℕ
 numbers-held table = length table / 4
 
 -- and stay, as all later bytes do.
-unfoldable pub bytes-after : (profile : List Row) → Outcome → (old : List ℕ) → List ℕ
-bytes-after profile outcome old = over (each four-bytes (written profile outcome)) old
+unfoldable pub bytes-after : Outcome → (old : List ℕ) → List ℕ
+bytes-after outcome old = over (each four-bytes (written outcome)) old

@@ -1,13 +1,15 @@
--- Document 01 as definitions, in its words and its order. What is proved is proved about these; which outcome a contract takes them at, and what the host
--- and the programs do with the answers, is said by the contracts (docs/PROMISES.md lists them).
+-- The rules (docs/RULES.md) as definitions, in their words and their order. What is proved is proved about these; what each public function promises is said by its
+-- contract (docs/PROMISES.md lists them).
+pub mod Sizes
 pub mod Bytes
 pub mod Form
-pub mod Reading
+pub mod Computed
 pub mod Rows
 pub mod Values
 pub mod Payments
-pub mod Refusals
 pub mod Accepted
+pub mod Refusals
+pub mod Order
 pub mod Table
 pub mod Fields
 pub mod Regrouping

@@ -1,10 +1,10 @@
--- Blocks and payments of a message, and what a payment takes from its block. All of it reads the tree of a message over a profile: a table of rows.
+-- Blocks and payments of a message, and what a payment takes from its block (docs/RULES.md, 5).
 use Prim.Native.Nat.{ℕ, suc, _+_}
 use mathlib.Core.List.{List, [], _∷_, _++_, map}
 use mathlib.Core.Option.{Option, none, some}
 use Rattle.paper.specs.Bytes.{if_then_else_, same}
 use Rattle.paper.specs.Form.{Element, Elements, holding-text, holding-elements, []ᵉ, _∷ᵉ_}
-use Rattle.paper.specs.Rows.{Row, row-of, head-of}
+use Rattle.paper.specs.Rows.{name, head-of}
 use Rattle.paper.specs.Values.{cents}
 
 unfoldable pub text-of : Element → List ℕ
@@ -19,69 +19,67 @@ unfoldable pub children : Element → List Element
 children (holding-text h w) = []
 children (holding-elements h ts) = listed ts
 
+-- of some elements all that are named as row k; of an element all such children, and the first of them
+unfoldable pub all-named : ℕ → List Element → List Element
+all-named k [] = []
+all-named k (t ∷ ts) = if same (head-of t .name) (name k) then t ∷ all-named k ts else all-named k ts
+
+unfoldable pub all-of : ℕ → Element → List Element
+all-of k t = all-named k (children t)
+
+unfoldable pub child : ℕ → Element → Option Element
+child k t = elim (all-of k t) [ [] ↦ none | u ∷ us ↦ some u ]
+
+-- what stands at the end of a route of rows, from child to child
+unfoldable pub follow : List ℕ → Element → Option Element
+follow [] t = some t
+follow (k ∷ ks) t = elim (child k t) [ none ↦ none | some u ↦ follow ks u ]
+
+-- the blocks of a message, and a leaf of its header
+unfoldable pub blocks : Element → List Element
+blocks root = elim (child 2 root) [ none ↦ [] | some order ↦ all-of 10 order ]
+
+unfoldable pub of-header : ℕ → Element → Option Element
+of-header k root = follow (2 ∷ 3 ∷ k ∷ []) root
+
 -- A payment: its own element, its block and that block's number, from 0.
 pub record Payment : Type 0 where
   pub own : Element
   pub block : Element
   pub block-number : ℕ
 
+unfoldable pub payments-of : (block-number : ℕ) → Element → List Payment
+payments-of n b = map (λ t. record { own = t; block = b; block-number = n }) (all-of 37 b)
+
+unfoldable pub payments-from : ℕ → List Element → List Payment
+payments-from n [] = []
+payments-from n (b ∷ bs) = payments-of n b ++ payments-from (suc n) bs
+
+unfoldable pub payments : Element → List Payment
+payments root = payments-from 0 (blocks root)
+
 -- the first of two that stands there
 unfoldable pub either-of : Option Element → Option Element → Option Element
 either-of (some t) other = some t
 either-of none other = other
 
-module _ (profile : List Row) where
-  -- of an element that is row `parent`, all children that are row k; and the first of them
-  unfoldable pub named : (parent k : ℕ) → List Element → List Element
-  named parent k [] = []
-  named parent k (t ∷ ts) =
-      if same (head-of t .name) (row-of profile parent k .name) then t ∷ named parent k ts else named parent k ts
+-- what stands at a route in the payment itself; in its block; in the payment or else in its block
+unfoldable pub in-payment : List ℕ → Payment → Option Element
+in-payment route p = follow route (p .own)
 
-  unfoldable pub all-of : (parent k : ℕ) → Element → List Element
-  all-of parent k t = named parent k (children t)
+unfoldable pub in-block : List ℕ → Payment → Option Element
+in-block route p = follow route (p .block)
 
-  unfoldable pub child : (parent k : ℕ) → Element → Option Element
-  child parent k t = elim (all-of parent k t) [ [] ↦ none | u ∷ us ↦ some u ]
+unfoldable pub inherited : List ℕ → Payment → Option Element
+inherited route p = either-of (in-payment route p) (in-block route p)
 
-  -- what stands at the end of a route of rows, from child to child
-  unfoldable pub follow : (parent : ℕ) → List ℕ → Element → Option Element
-  follow parent [] t = some t
-  follow parent (k ∷ ks) t = elim (child parent k t) [ none ↦ none | some u ↦ follow k ks u ]
+-- The instructed amount of a payment's element, in cents, and those of several together. (In an accepted message each payment has one: `Accepted` says so.)
+unfoldable pub amount-of : Element → ℕ
+amount-of t = elim (follow (41 ∷ 42 ∷ []) t) [ none ↦ 0 | some u ↦ cents (text-of u) ]
 
-  unfoldable pub blocks : Element → List Element
-  blocks root = elim (child 1 2 root) [ none ↦ [] | some order ↦ all-of 2 10 order ]
+unfoldable pub sum-of : List Element → ℕ
+sum-of [] = 0
+sum-of (t ∷ ts) = amount-of t + sum-of ts
 
-  -- a leaf of the header
-  unfoldable pub of-header : ℕ → Element → Option Element
-  of-header k root = follow 1 (2 ∷ 3 ∷ k ∷ []) root
-
-  unfoldable pub payments-of : (block-number : ℕ) → Element → List Payment
-  payments-of n b = map (λ t. record { own = t; block = b; block-number = n }) (all-of 10 37 b)
-
-  unfoldable pub payments-from : ℕ → List Element → List Payment
-  payments-from n [] = []
-  payments-from n (b ∷ bs) = payments-of n b ++ payments-from (suc n) bs
-
-  unfoldable pub payments : Element → List Payment
-  payments root = payments-from 0 (blocks root)
-
-  -- what stands at a route in the payment itself; in its block; in the payment or else in its block
-  unfoldable pub in-payment : List ℕ → Payment → Option Element
-  in-payment route p = follow 37 route (p .own)
-
-  unfoldable pub in-block : List ℕ → Payment → Option Element
-  in-block route p = follow 10 route (p .block)
-
-  unfoldable pub inherited : List ℕ → Payment → Option Element
-  inherited route p = either-of (in-payment route p) (in-block route p)
-
-  -- the instructed amount of a payment's element in cents, and the exact sum of several
-  unfoldable pub amount-of : Element → ℕ
-  amount-of t = elim (follow 37 (41 ∷ 42 ∷ []) t) [ none ↦ 0 | some u ↦ cents (text-of u) ]
-
-  unfoldable pub sum-of : List Element → ℕ
-  sum-of [] = 0
-  sum-of (t ∷ ts) = amount-of t + sum-of ts
-
-  unfoldable pub total : Element → ℕ
-  total root = sum-of (map (λ p. p .own) (payments root))
+unfoldable pub total : Element → ℕ
+total root = sum-of (map (λ p. p .own) (payments root))

@@ -1,14 +1,15 @@
--- Refusals of a message. Stages run in this order, each over the whole message, if the earlier ones found nothing.
+-- Refusals of a message (docs/RULES.md, 6). Stages run in this order, each over the whole message, if the earlier ones found nothing.
 use Prim.Native.Nat.{ℕ, suc, _+_, _^_}
-use mathlib.Core.List.{List, [], _∷_, _++_}
+use mathlib.Core.List.{List, [], _∷_}
 use mathlib.Core.Option.{Option, none, some}
 use mathlib.Core.Bool.{Bool, true, false, _||_, not}
 use lib.ListN.{length}
 use lib.Dec.{eqb, ltb}
-use Rattle.paper.specs.Bytes.{if_then_else_, is, white, value-character, every, same}
+use Rattle.paper.specs.Sizes.{largest-message, least-table, most-blocks, most-payments}
+use Rattle.paper.specs.Bytes.{if_then_else_, white, value-character, every, same}
 use Rattle.paper.specs.Form.{Head, Element, Elements, holding-text, holding-elements, []ᵉ, _∷ᵉ_}
-use Rattle.paper.specs.Reading.{Reading, root-is, stops-at, read}
-use Rattle.paper.specs.Rows.{Place, one, opt, plus, either, further, Holds, text, elements, Row, row-of, head-of}
+use Rattle.paper.specs.Computed.Reading.{Reading, root-is, stops-at, read}
+use Rattle.paper.specs.Rows.{Place, one, opt, plus, either, Holds, text, elements, Row, name, row-of, longest-of, head-of}
 use Rattle.paper.specs.Values.{lies-from, allowed, number, cents}
 use Rattle.paper.specs.Payments.{Payment, text-of, child, all-of, blocks, of-header, payments, in-payment, in-block, sum-of, total}
 
@@ -28,12 +29,6 @@ _or-else_ none later = later
 
 infixr 20 _or-else_
 -- 14: the table has under 1,024 numbers. 1: over 32,768 bytes.
-unfoldable pub least-table : ℕ
-least-table = 1024
-
-unfoldable pub largest-message : ℕ
-largest-message = 32768
-
 unfoldable pub table-refusal : (table-length : ℕ) → Option Refusal
 table-refusal n = if ltb n least-table then refuse 14 0 0 else none
 
@@ -45,200 +40,207 @@ unfoldable pub first-not : (ℕ → Bool) → List ℕ → ℕ
 first-not p [] = 0
 first-not p (b ∷ s) = if p b then suc (first-not p s) else 0
 
--- 3 and 4, one walk in the order of the file, over any table of rows. At the leaves it asks a judgement, which is none for 3 and 4.
--- The rows that may take a place, whether one of them must, and what is left of the place when one has.
+-- 3 and 4, one walk in the order of the file, over any profile. At the leaves it asks a judgement, which is none for 3 and 4.
+-- What is left of a group's order: some places; or, where row k, one or more, has been seen, further ones of it and then some places.
+pub data Left : Type 0 where
+  from-here : List Place → Left
+  again : ℕ → List Place → Left
+
+-- The rows that may take a place, whether one of them must, and what is left when one has.
 unfoldable pub rows-at : Place → List ℕ
 rows-at (one k) = k ∷ []
 rows-at (opt k) = k ∷ []
 rows-at (plus k) = k ∷ []
-rows-at (further k) = k ∷ []
 rows-at (either ks) = ks
 
 unfoldable pub required : Place → Bool
 required (one k) = true
 required (opt k) = false
 required (plus k) = true
-required (further k) = false
 required (either ks) = true
 
-unfoldable pub left-of : Place → List Place
-left-of (one k) = []
-left-of (opt k) = []
-left-of (plus k) = further k ∷ []
-left-of (further k) = further k ∷ []
-left-of (either ks) = []
+unfoldable pub left-of : Place → List Place → Left
+left-of (one k) ps = from-here ps
+left-of (opt k) ps = from-here ps
+left-of (plus k) ps = again k ps
+left-of (either ks) ps = from-here ps
 
--- the first row that is missing (of a choice, its first), if something required is among these places
+-- the first row that is missing (of a choice, its first), if something required is left
 unfoldable pub first-row : List ℕ → ℕ
 first-row [] = 0
 first-row (k ∷ ks) = k
 
-unfoldable pub missing : List Place → Option ℕ
-missing [] = none
-missing (p ∷ ps) = if required p then some (first-row (rows-at p)) else missing ps
+unfoldable pub missing-of : List Place → Option ℕ
+missing-of [] = none
+missing-of (p ∷ ps) = if required p then some (first-row (rows-at p)) else missing-of ps
 
--- the end tag of a group with these places left; text in a group
-unfoldable pub ends : List Place → (close : ℕ) → Option Refusal
-ends places close = elim (missing places) [ some first ↦ refuse 4 first close | none ↦ none ]
+unfoldable pub missing : Left → Option ℕ
+missing (from-here ps) = missing-of ps
+missing (again k ps) = missing-of ps
+
+-- the end tag of a group with so much left; text in a group
+unfoldable pub ends : Left → (close : ℕ) → Option Refusal
+ends left close = elim (missing left) [ some first ↦ refuse 4 first close | none ↦ none ]
 
 unfoldable pub only-white : (row : ℕ) → List Place → Head → List ℕ → Option Refusal
-only-white row places h w = if every white w then ends places (h .close) else refuse 3 row (h .start + first-not white w)
+only-white row places h w =
+    if every white w then ends (from-here places) (h .close) else refuse 3 row (h .start + first-not white w)
 
 -- where the first of some elements stands
 unfoldable pub first-at : Elements → ℕ → ℕ
 first-at []ᵉ otherwise = otherwise
 first-at (t ∷ᵉ ts) otherwise = head-of t .at
 
--- A child of this name: no place left takes it; or it comes too early, a required row not yet seen; or it is row k, with these places left.
+-- A child of this name: no place left takes it; or it comes too early, a required row not yet seen; or it is row k, with so much left behind it.
 pub data Sought : Type 0 where
   never : Sought
   early : (first : ℕ) → Sought
-  found : (k : ℕ) → List Place → Sought
+  found : (k : ℕ) → Left → Sought
 
 unfoldable pub past : Place → Sought → Sought
 past p never = never
 past p (early first) = if required p then early (first-row (rows-at p)) else early first
 past p (found k left) = if required p then early (first-row (rows-at p)) else found k left
 
-unfoldable pub no-judgement : (parent : ℕ) → Row → Head → List ℕ → Option Refusal
+unfoldable pub named-in : List ℕ → (name : List ℕ) → Option ℕ
+named-in [] w = none
+named-in (k ∷ ks) w = if same w (name k) then some k else named-in ks w
+
+unfoldable pub seek-in : List Place → (name : List ℕ) → Sought
+seek-in [] w = never
+seek-in (p ∷ ps) w = elim (named-in (rows-at p) w) [ some k ↦ found k (left-of p ps) | none ↦ past p (seek-in ps w) ]
+
+unfoldable pub seek : Left → (name : List ℕ) → Sought
+seek (from-here ps) w = seek-in ps w
+seek (again k ps) w = if same w (name k) then found k (again k ps) else seek-in ps w
+
+-- What is judged at the leaves.
+abbrev pub Judgement : Type 0
+Judgement = (parent : ℕ) → Row → Head → List ℕ → Option Refusal
+
+module _ (profile : List Row) (judge : Judgement) where
+  unfoldable mutual
+    pub walk : Element → (parent : ℕ) → Row → Option Refusal
+    walk (holding-text h w) parent r =
+        elim (r .holds) [ text longest ↦ judge parent r h w | elements places ↦ only-white (r .row) places h w ]
+    walk (holding-elements h ts) parent r =
+        elim (r .holds) [
+          | text longest ↦ refuse 3 (r .row) (first-at ts (h .start))
+          | elements places ↦ walk-all ts (r .row) (from-here places) (h .close)
+        ]
+
+    pub walk-all : Elements → (row : ℕ) → Left → (close : ℕ) → Option Refusal
+    walk-all []ᵉ row left close = ends left close
+    walk-all (t ∷ᵉ ts) row left close =
+        elim (seek left (head-of t .name)) [
+          | never ↦ refuse 3 row (head-of t .at)
+          | early first ↦ refuse 4 first (head-of t .at)
+          | found k behind ↦ walk t row (row-of profile row k) or-else walk-all ts row behind close
+        ]
+
+-- 3 and 4: no judgement at the leaves.
+unfoldable pub no-judgement : Judgement
 no-judgement parent r h w = none
 
-module _ (profile : List Row) where
-  unfoldable pub named-in : (parent : ℕ) → List ℕ → (name : List ℕ) → Option ℕ
-  named-in parent [] name = none
-  named-in parent (k ∷ ks) name = if same name (row-of profile parent k .name) then some k else named-in parent ks name
-
-  unfoldable pub seek : (parent : ℕ) → List Place → (name : List ℕ) → Sought
-  seek parent [] name = never
-  seek parent (p ∷ ps) name = elim (named-in parent (rows-at p) name) [ some k ↦ found k (left-of p ++ ps) | none ↦ past p (seek parent ps name) ]
-
-  module _ (judge : (parent : ℕ) → Row → Head → List ℕ → Option Refusal) where
-    unfoldable mutual
-      pub walk : Element → (parent : ℕ) → Row → Option Refusal
-      walk (holding-text h w) parent r =
-          elim (r .holds) [ text longest ↦ judge parent r h w | elements places ↦ only-white (r .row) places h w ]
-      walk (holding-elements h ts) parent r =
-          elim (r .holds) [ text longest ↦ refuse 3 (r .row) (first-at ts (h .start)) | elements places ↦ walk-all ts (r .row) places (h .close) ]
-
-      pub walk-all : Elements → (row : ℕ) → List Place → (close : ℕ) → Option Refusal
-      walk-all []ᵉ row places close = ends places close
-      walk-all (t ∷ᵉ ts) row places close =
-          elim (seek row places (head-of t .name)) [
-            | never ↦ refuse 3 row (head-of t .at)
-            | early first ↦ refuse 4 first (head-of t .at)
-            | found k left ↦ walk t row (row-of profile row k) or-else walk-all ts row left close
-          ]
-
-  -- 3 and 4: no judgement at the leaves.
-  unfoldable pub rows-refusal : Element → Option Refusal
-  rows-refusal root = walk no-judgement root 0 (row-of profile 0 1)
+unfoldable pub rows-refusal : List Row → Element → Option Refusal
+rows-refusal profile root = walk profile no-judgement root 0 (row-of profile 0 1)
 
 -- 5: the 17th block or the 65th payment, whichever comes first.
-module _ (profile : List Row) where
-  unfoldable pub sixty-fifth : (payments-before : ℕ) → List Element → Option Refusal
-  sixty-fifth n [] = none
-  sixty-fifth n (t ∷ ts) = if eqb n 64 then refuse 5 37 (head-of t .at) else sixty-fifth (suc n) ts
+unfoldable pub sixty-fifth : (payments-before : ℕ) → List Element → Option Refusal
+sixty-fifth n [] = none
+sixty-fifth n (t ∷ ts) = if eqb n most-payments then refuse 5 37 (head-of t .at) else sixty-fifth (suc n) ts
 
-  unfoldable pub too-many : (blocks-before payments-before : ℕ) → List Element → Option Refusal
-  too-many b n [] = none
-  too-many b n (t ∷ ts) =
-      if eqb b 16 then refuse 5 10 (head-of t .at) else
-      (sixty-fifth n (all-of profile 10 37 t) or-else too-many (suc b) (n + length (all-of profile 10 37 t)) ts)
+unfoldable pub too-many : (blocks-before payments-before : ℕ) → List Element → Option Refusal
+too-many b n [] = none
+too-many b n (t ∷ ts) =
+    if eqb b most-blocks then refuse 5 10 (head-of t .at) else
+    (sixty-fifth n (all-of 37 t) or-else too-many (suc b) (n + length (all-of 37 t)) ts)
 
-  unfoldable pub limits-refusal : Element → Option Refusal
-  limits-refusal root = too-many 0 0 (blocks profile root)
+unfoldable pub limits-refusal : Element → Option Refusal
+limits-refusal root = too-many 0 0 (blocks root)
 
--- 6 to 8 at one leaf, tried 6, 7, 8: it is empty or too long; a character is not in the set; the value is not allowed.
-unfoldable pub longest-of : Holds → ℕ
-longest-of (text longest) = longest
-longest-of (elements places) = 0
-
-unfoldable pub leaf-refusal : (parent : ℕ) → Row → Head → List ℕ → Option Refusal
+-- 6 to 8: the walk that tries each leaf 6, 7, 8: it is empty or too long; a character is not in the set; the value is not allowed.
+unfoldable pub leaf-refusal : Judgement
 leaf-refusal parent r h w =
     if not (lies-from 1 (longest-of (r .holds)) (length w)) then refuse 6 (r .row) (h .at) else
     if not (every value-character w) then refuse 7 (r .row) (h .start + first-not value-character w) else
-    if every (is " ") w || not (allowed parent (r .row) (h .currency) w) then refuse 8 (r .row) (h .at) else none
+    if not (allowed parent (r .row) (h .currency) w) then refuse 8 (r .row) (h .at) else none
 
--- 6 to 8: the walk with that judgement at each leaf.
-module _ (profile : List Row) where
-  unfoldable pub values-refusal : Element → Option Refusal
-  values-refusal root = walk profile leaf-refusal root 0 (row-of profile 0 1)
+unfoldable pub values-refusal : List Row → Element → Option Refusal
+values-refusal profile root = walk profile leaf-refusal root 0 (row-of profile 0 1)
 
 -- 9 and 10: one walk over payments, in each 16, 36, 34.
-module _ (profile : List Row) where
-  unfoldable pub in-both : ℕ → Payment → Option Refusal
-  in-both k p =
-      elim (in-payment profile (k ∷ []) p) [
-        | none ↦ none
-        | some t ↦ elim (in-block profile (k ∷ []) p) [ none ↦ none | some u ↦ refuse 9 k (head-of t .at) ]
-      ]
+unfoldable pub in-both : ℕ → Payment → Option Refusal
+in-both k p =
+    elim (in-payment (k ∷ []) p) [
+      | none ↦ none
+      | some t ↦ elim (in-block (k ∷ []) p) [ none ↦ none | some u ↦ refuse 9 k (head-of t .at) ]
+    ]
 
-  unfoldable pub in-neither : ℕ → Payment → Option Refusal
-  in-neither k p =
-      elim (in-payment profile (k ∷ []) p) [
-        | some t ↦ none
-        | none ↦ elim (in-block profile (k ∷ []) p) [ some u ↦ none | none ↦ refuse 10 k (head-of (p .own) .at) ]
-      ]
+unfoldable pub in-neither : ℕ → Payment → Option Refusal
+in-neither k p =
+    elim (in-payment (k ∷ []) p) [
+      | some t ↦ none
+      | none ↦ elim (in-block (k ∷ []) p) [ some u ↦ none | none ↦ refuse 10 k (head-of (p .own) .at) ]
+    ]
 
-  unfoldable pub usage : List Payment → Option Refusal
-  usage [] = none
-  usage (p ∷ ps) = in-both 16 p or-else in-neither 16 p or-else in-both 36 p or-else in-both 34 p or-else usage ps
+unfoldable pub usage-of : Payment → Option Refusal
+usage-of p = in-both 16 p or-else in-neither 16 p or-else in-both 36 p or-else in-both 34 p
 
-  unfoldable pub usage-refusal : Element → Option Refusal
-  usage-refusal root = usage (payments profile root)
+unfoldable pub usage : List Payment → Option Refusal
+usage [] = none
+usage (p ∷ ps) = usage-of p or-else usage ps
 
+unfoldable pub usage-refusal : Element → Option Refusal
+usage-refusal root = usage (payments root)
+
+-- From here on leaves are asked that must stand there, since 3 and 4 refused nothing. Were one absent, it would be refused at 0: nothing passes for being
+-- absent.
 -- 11: a block id equal, byte for byte, to an earlier block's.
 unfoldable pub among-texts : List ℕ → List (List ℕ) → Bool
 among-texts w [] = false
 among-texts w (v ∷ vs) = same w v || among-texts w vs
 
-module _ (profile : List Row) where
-  unfoldable pub repeated : (earlier : List (List ℕ)) → List Element → Option Refusal
-  repeated earlier [] = none
-  repeated earlier (b ∷ bs) =
-      elim (child profile 10 11 b) [
-        | none ↦ repeated earlier bs
-        | some id ↦ if among-texts (text-of id) earlier then refuse 11 11 (head-of id .at) else repeated (text-of id ∷ earlier) bs
-      ]
+unfoldable pub repeated : (earlier : List (List ℕ)) → List Element → Option Refusal
+repeated earlier [] = none
+repeated earlier (b ∷ bs) =
+    elim (child 11 b) [
+      | none ↦ refuse 11 11 0
+      | some id ↦ if among-texts (text-of id) earlier then refuse 11 11 (head-of id .at) else repeated (text-of id ∷ earlier) bs
+    ]
 
-  unfoldable pub ids-refusal : Element → Option Refusal
-  ids-refusal root = repeated [] (blocks profile root)
+unfoldable pub ids-refusal : Element → Option Refusal
+ids-refusal root = repeated [] (blocks root)
 
--- where an element stands that must be there
+-- 21: the total of the amounts above 64 bits.
 unfoldable pub at-of : Option Element → ℕ
 at-of none = 0
 at-of (some t) = head-of t .at
 
--- 21: the total of the amounts above 64 bits.
-module _ (profile : List Row) where
-  unfoldable pub total-refusal : Element → Option Refusal
-  total-refusal root = if ltb (total profile root) (2 ^ 64) then none else refuse 21 7 (at-of (of-header profile 7 root))
-
--- a refusal at a leaf, where the leaf's text is not as it should be
-unfoldable pub unless : (List ℕ → Bool) → (number row : ℕ) → Option Element → Option Refusal
-unless right number row none = none
-unless right number row (some t) = if right (text-of t) then none else refuse number row (head-of t .at)
+unfoldable pub total-refusal : Element → Option Refusal
+total-refusal root = if ltb (total root) (2 ^ 64) then none else refuse 21 7 (at-of (of-header 7 root))
 
 -- 12 and 13: one walk: header count, header sum, then each block's count and sum. Header numbers cover the whole message.
-module _ (profile : List Row) where
-  unfoldable pub block-counts : List Element → Option Refusal
-  block-counts [] = none
-  block-counts (b ∷ bs) =
-      unless (λ w. eqb (number w) (length (all-of profile 10 37 b))) 12 14 (child profile 10 14 b) or-else
-      unless (λ w. eqb (cents w) (sum-of profile (all-of profile 10 37 b))) 13 15 (child profile 10 15 b) or-else block-counts bs
+unfoldable pub unless : (List ℕ → Bool) → (number row : ℕ) → Option Element → Option Refusal
+unless right number row none = refuse number row 0
+unless right number row (some t) = if right (text-of t) then none else refuse number row (head-of t .at)
 
-  unfoldable pub counts-refusal : Element → Option Refusal
-  counts-refusal root =
-      unless (λ w. eqb (number w) (length (payments profile root))) 12 6 (of-header profile 6 root) or-else
-      unless (λ w. eqb (cents w) (total profile root)) 13 7 (of-header profile 7 root) or-else
-      block-counts (blocks profile root)
+unfoldable pub block-counts : List Element → Option Refusal
+block-counts [] = none
+block-counts (b ∷ bs) =
+    unless (λ w. eqb (number w) (length (all-of 37 b))) 12 14 (child 14 b) or-else
+    unless (λ w. eqb (cents w) (sum-of (all-of 37 b))) 13 15 (child 15 b) or-else block-counts bs
+
+unfoldable pub counts-refusal : Element → Option Refusal
+counts-refusal root =
+    unless (λ w. eqb (number w) (length (payments root))) 12 6 (of-header 6 root) or-else
+    unless (λ w. eqb (cents w) (total root)) 13 7 (of-header 7 root) or-else block-counts (blocks root)
 
 -- the stages over the tree of a message of the form
-module _ (profile : List Row) where
-  unfoldable pub tree-refusal : Element → Option Refusal
-  tree-refusal root =
-      rows-refusal profile root or-else limits-refusal profile root or-else values-refusal profile root or-else usage-refusal profile root or-else
-      ids-refusal profile root or-else total-refusal profile root or-else counts-refusal profile root
+unfoldable pub tree-refusal : List Row → Element → Option Refusal
+tree-refusal profile root =
+    rows-refusal profile root or-else limits-refusal root or-else values-refusal profile root or-else usage-refusal root or-else
+    ids-refusal root or-else total-refusal root or-else counts-refusal root
 
 -- What comes of a message: a refusal, or acceptance, with the root of the message's tree.
 pub data Outcome : Type 0 where
@@ -261,20 +263,8 @@ outcome-alone profile s = unless-refused (size-refusal s) (of-reading profile (r
 unfoldable pub outcome : List Row → (table-length : ℕ) → List ℕ → Outcome
 outcome profile n s = unless-refused (table-refusal n) (outcome-alone profile s)
 
--- The verdict: accepted, with blocks, payments and total cents; or refused.
-pub data Answer : Type 0 where
-  accepted : (blocks payments cents : ℕ) → Answer
-  refused : Refusal → Answer
-
-unfoldable pub answer : List Row → Outcome → Answer
-answer profile (refused-as r) = refused r
-answer profile (accepted-with root) = accepted (length (blocks profile root)) (length (payments profile root)) (total profile root)
-
-unfoldable pub verdict : List Row → (table-length : ℕ) → List ℕ → Answer
-verdict profile n s = answer profile (outcome profile n s)
-
--- What is returned. Refused: number, element, offset and counts of zero. Accepted: the counts, with number, element and offset 0.
-pub record Returned : Type 0 where
+-- The answer to a message. Refused: number, element, offset and counts of zero. Accepted: blocks, payments and total cents, with number, element and offset 0.
+pub record MessageAnswer : Type 0 where
   pub number : ℕ
   pub element : ℕ
   pub offset : ℕ
@@ -282,6 +272,15 @@ pub record Returned : Type 0 where
   pub payments : ℕ
   pub cents : ℕ
 
-unfoldable pub returned : Answer → Returned
-returned (accepted b p c) = record { number = 0; element = 0; offset = 0; blocks = b; payments = p; cents = c }
-returned (refused r) = record { number = r .number; element = r .element; offset = r .offset; blocks = 0; payments = 0; cents = 0 }
+unfoldable pub refused : Refusal → MessageAnswer
+refused r = record { number = r .number; element = r .element; offset = r .offset; blocks = 0; payments = 0; cents = 0 }
+
+unfoldable pub accepted : (blocks payments cents : ℕ) → MessageAnswer
+accepted b p c = record { number = 0; element = 0; offset = 0; blocks = b; payments = p; cents = c }
+
+unfoldable pub answer-to : Outcome → MessageAnswer
+answer-to (refused-as r) = refused r
+answer-to (accepted-with root) = accepted (length (blocks root)) (length (payments root)) (total root)
+
+unfoldable pub verdict : List Row → (table-length : ℕ) → List ℕ → MessageAnswer
+verdict profile n s = answer-to (outcome profile n s)

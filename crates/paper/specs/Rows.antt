@@ -1,4 +1,4 @@
--- The rows. Children stand in this order; ? (`opt`) is at most one, + (`plus`) is one or more, / (`either`) is a choice of exactly one,
+-- The rows (docs/RULES.md, 3). Children stand in this order; ? (`opt`) is at most one, + (`plus`) is one or more, / (`either`) is a choice of exactly one,
 -- the rest (`one`) exactly one. A number after a leaf is its longest length in bytes.
 use Prim.Native.Nat.{ℕ}
 use Prim.Native.String.{String}
@@ -13,8 +13,6 @@ use Rattle.paper.specs.Form.{Head, Element, Elements, holding-text, hold
 pub data Place : Type 0 where
   one opt plus : ℕ → Place
   either : List ℕ → Place
-  -- what is left of `plus` once one has been seen: any number of further ones
-  further : ℕ → Place
 
 pub data Holds : Type 0 where
   text : (longest : ℕ) → Holds
@@ -97,11 +95,24 @@ rows =
     leaf 54 "Issr" 35 ∷
     leaf 55 "Ref" 35 ∷ []
 
--- Row k as it stands under a parent. (One that no table has would have no name, which no element can have.)
+-- A row's name goes by its number alone. (A number that is no row's has no name, which no element can have.)
+unfoldable pub name-in : List Row → ℕ → List ℕ
+name-in [] k = []
+name-in (r ∷ rs) k = if eqb (r .row) k then r .name else name-in rs k
+
+unfoldable pub name : ℕ → List ℕ
+name k = name-in rows k
+
+-- What row k is under a parent, in a profile: a table of rows.
 unfoldable pub row-of : List Row → (parent k : ℕ) → Row
 row-of [] parent k = record { row = k; under = parent; name = []; holds = text 0 }
 row-of (r ∷ rs) parent k =
     if eqb (r .row) k && (eqb (r .under) 0 || eqb (r .under) parent) then r else row-of rs parent k
+
+-- the longest length of a leaf's text
+unfoldable pub longest-of : Holds → ℕ
+longest-of (text longest) = longest
+longest-of (elements places) = 0
 
 -- The rows of a group's children, in their order, are arranged as its places say.
 pub data Arranged : List Place → List ℕ → Type 0 where
@@ -109,17 +120,16 @@ pub data Arranged : List Place → List ℕ → Type 0 where
   exactly-one : {k : ℕ} {ps : List Place} {ks : List ℕ} → Arranged ps ks → Arranged (one k ∷ ps) (k ∷ ks)
   there : {k : ℕ} {ps : List Place} {ks : List ℕ} → Arranged ps ks → Arranged (opt k ∷ ps) (k ∷ ks)
   not-there : {k : ℕ} {ps : List Place} {ks : List ℕ} → Arranged ps ks → Arranged (opt k ∷ ps) ks
-  at-least-one : {k : ℕ} {ps : List Place} {ks : List ℕ} → Arranged (further k ∷ ps) ks → Arranged (plus k ∷ ps) (k ∷ ks)
-  one-further : {k : ℕ} {ps : List Place} {ks : List ℕ} → Arranged (further k ∷ ps) ks → Arranged (further k ∷ ps) (k ∷ ks)
-  no-further : {k : ℕ} {ps : List Place} {ks : List ℕ} → Arranged ps ks → Arranged (further k ∷ ps) ks
+  the-last : {k : ℕ} {ps : List Place} {ks : List ℕ} → Arranged ps ks → Arranged (plus k ∷ ps) (k ∷ ks)
+  one-before : {k : ℕ} {ps : List Place} {ks : List ℕ} → Arranged (plus k ∷ ps) ks → Arranged (plus k ∷ ps) (k ∷ ks)
   chosen : {k : ℕ} {choice : List ℕ} {ps : List Place} {ks : List ℕ} → List·Memᴰ k choice → Arranged ps ks → Arranged (either choice ∷ ps) (k ∷ ks)
 
 unfoldable pub head-of : Element → Head
 head-of (holding-text h w) = h
 head-of (holding-elements h ts) = h
 
--- An element conforms to a row, over any table of rows: a leaf holds text that is right for it, a group holds children of rows that are arranged as
--- it says, each named as its row and conforming to it.
+-- An element conforms to a row, over any profile: a leaf holds text that is right for it, a group holds children of rows that are arranged as it says, each
+-- named as its row and conforming to it.
 module _ (profile : List Row) (Right : (parent : ℕ) → Row → Head → List ℕ → Type 0) where
   unfoldable mutual
     pub Conforms : Element → (parent : ℕ) → Row → Type 0
@@ -134,5 +144,5 @@ module _ (profile : List Row) (Right : (parent : ℕ) → Row → Head → List 
         elim ks [
           | [] ↦ ⊥
           | k ∷ others ↦
-              (head-of t .name ≡ row-of profile parent k .name) × Conforms t parent (row-of profile parent k) × Conform ts parent others
+              (head-of t .name ≡ name k) × Conforms t parent (row-of profile parent k) × Conform ts parent others
         ]

@@ -1,12 +1,15 @@
--- The table after acceptance.
+-- The table after acceptance (docs/RULES.md, 7).
 use Prim.Native.Nat.{ℕ, _-_, _/_, _%_}
 use mathlib.Core.List.{List, [], _∷_, _++_}
+use mathlib.Core.Bool.{Bool, true, false}
 use mathlib.Core.Option.{Option, none, some}
+use mathlib.Core.Path.{_≡_}
 use lib.ListN.{length, drop}
 use Rattle.paper.specs.Bytes.{each}
 use Rattle.paper.specs.Form.{Element}
-use Rattle.paper.specs.Rows.{Row, head-of}
+use Rattle.paper.specs.Rows.{head-of}
 use Rattle.paper.specs.Payments.{Payment, payments, in-payment, in-block, inherited, amount-of}
+use Rattle.paper.specs.Accepted.{Each, There}
 use Rattle.paper.specs.Refusals.{Outcome, refused-as, accepted-with}
 
 -- A part of the message: its start and its length. The part that an element holds; of one that is absent 0, 0.
@@ -18,32 +21,43 @@ unfoldable pub part-of : Option Element → Part
 part-of none = record { start = 0; size = 0 }
 part-of (some t) = record { start = head-of t .start; size = head-of t .close - head-of t .start }
 
+unfoldable pub start-and-length : Option Element → List ℕ
+start-and-length o = part-of o .start ∷ part-of o .size ∷ []
+
+-- What the pairs of a payment's row tell of.
+unfoldable pub pairs : Payment → List (Option Element)
+pairs p =
+    in-payment (38 ∷ 40 ∷ []) p ∷  -- numbers 1 and 2: the end-to-end id
+    in-payment (45 ∷ 27 ∷ 28 ∷ []) p ∷  -- 3 and 4: the creditor's IBAN
+    in-payment (44 ∷ 25 ∷ []) p ∷  -- 5 and 6: the creditor's name
+    inherited (34 ∷ 35 ∷ []) p ∷  -- 7 and 8: the ultimate debtor's name
+    inherited (16 ∷ []) p ∷  -- 9 and 10: all that row 16 holds
+    in-block (26 ∷ 27 ∷ 28 ∷ []) p ∷ []  -- 11 and 12: the debtor's IBAN
+
+-- No pair but the ultimate debtor's may be absent. (That it is so in an accepted message is proved: crates/acceptance/proofs/Present.antt, `no-other-absent`.)
+unfoldable pub must-be-there : List Bool
+must-be-there = true ∷ true ∷ true ∷ false ∷ true ∷ true ∷ []
+
+unfoldable pub PairsThere : Payment → Type 0
+PairsThere p = Each (λ must o. must ≡ true → There o) must-be-there (pairs p)
+
+unfoldable pub numbers-of : Payment → List ℕ
+numbers-of p =
+    p .block-number ∷  -- number 0: the payment's block, from 0
+    (each start-and-length (pairs p) ++
+    (amount-of (p .own) / 100 ∷  -- 13: whole euros
+    amount-of (p .own) % 100 ∷  -- 14: cents, 0 to 99
+    head-of (p .own) .at ∷ []))  -- 15: the offset of the payment's `<`
+
+-- The numbers that are written; after a refusal there are none.
+unfoldable pub written : Outcome → List ℕ
+written (refused-as r) = []
+written (accepted-with root) = each numbers-of (payments root)
+
 -- what is written first, over what was there
 unfoldable pub over : (front old : List ℕ) → List ℕ
 over front old = front ++ drop (length front) old
 
-unfoldable pub two-numbers : Part → List ℕ
-two-numbers p = p .start ∷ p .size ∷ []
-
-module _ (profile : List Row) where
-  -- Block from 0; start and length of end-to-end id, creditor IBAN, creditor name, ultimate debtor's name, contents of row 16, debtor IBAN (the last three
-  -- as inherited); whole euros; cents 0 to 99; offset of the payment's `<`.
-  unfoldable pub numbers-of : Payment → List ℕ
-  numbers-of p =
-      (p .block-number ∷ []) ++
-      (two-numbers (part-of (in-payment profile (38 ∷ 40 ∷ []) p)) ++
-      (two-numbers (part-of (in-payment profile (45 ∷ 27 ∷ 28 ∷ []) p)) ++
-      (two-numbers (part-of (in-payment profile (44 ∷ 25 ∷ []) p)) ++
-      (two-numbers (part-of (inherited profile (34 ∷ 35 ∷ []) p)) ++
-      (two-numbers (part-of (inherited profile (16 ∷ []) p)) ++
-      (two-numbers (part-of (in-block profile (26 ∷ 27 ∷ 28 ∷ []) p)) ++
-      (amount-of profile (p .own) / 100 ∷ amount-of profile (p .own) % 100 ∷ head-of (p .own) .at ∷ [])))))))
-
-  -- The numbers that are written; after a refusal there are none.
-  unfoldable pub written : Outcome → List ℕ
-  written (refused-as r) = []
-  written (accepted-with root) = each numbers-of (payments profile root)
-
-  -- All later numbers keep their old values.
-  unfoldable pub table-after : Outcome → (old : List ℕ) → List ℕ
-  table-after outcome old = over (written outcome) old
+-- All later numbers keep their old values.
+unfoldable pub table-after : Outcome → (old : List ℕ) → List ℕ
+table-after outcome old = over (written outcome) old

@@ -1,4 +1,4 @@
--- What a value may be: a rule for each kind, over the text alone. (Length and characters are refusals 6 and 7, and are asked first.)
+-- What a value may be (docs/RULES.md, 4): a rule for each kind, over the text alone. (Length and characters are refusals 6 and 7, and are asked first.)
 use Prim.Native.Nat.{ℕ, suc, _+_, _*_, _-_, _%_}
 use Prim.Native.Char.{Char, code}
 use Prim.Native.String.{String, [] as []ˢ, _∷_ as _∷ˢ_}
@@ -134,8 +134,8 @@ iban w =
 
 -- The row of a leaf decides its rule; the row above it where it matters: row 19 is `SEPA`, and under row 53 `SCOR`. Row 42 has its currency. Any other row
 -- is free.
-unfoldable pub allowed : (parent row : ℕ) (currency text : List ℕ) → Bool
-allowed parent row currency w =
+unfoldable pub right-for : (parent row : ℕ) (currency text : List ℕ) → Bool
+right-for parent row currency w =
     if among row (4 ∷ 11 ∷ 39 ∷ 40 ∷ []) then id w else
     if eqb row 12 then same w (bytes "TRF") else
     if eqb row 13 then same w (bytes "true") || same w (bytes "false") else
@@ -151,3 +151,10 @@ allowed parent row currency w =
     if eqb row 42 then amount w && same currency (bytes "EUR") else
     if eqb row 31 then bic w else
     if eqb row 28 then iban w else true
+
+-- Text of spaces alone is allowed nowhere.
+unfoldable pub spaces-alone : List ℕ → Bool
+spaces-alone w = every (is " ") w
+
+unfoldable pub allowed : (parent row : ℕ) (currency text : List ℕ) → Bool
+allowed parent row currency w = not (spaces-alone w) && right-for parent row currency w

@@ -12,7 +12,7 @@ use lib.Dec.{eqb}
 use borrow.Author.Tests.{eq-eqb, ne-eqb, eqb-true, eqb-false}
 use Rattle.paper.specs.Bytes.{white, text-byte, letter-or-digit}
 use Rattle.paper.specs.Form.{Element}
-use Rattle.paper.specs.Reading.{Open, State, naming, blank, text, want, step, ended, run, stops-at}
+use Rattle.paper.specs.Computed.Reading.{Open, State, naming, blank, in-text, want, step, ended, run, stops-at}
 use Rattle.grammar.specs.Stays.{Stays}
 use Rattle.scans.specs.Scans.{from, Scanned, to, stops, Through, Along, Spelt}
 use Rattle.scans.specs.declared.Scan.{Scan}
@@ -144,7 +144,7 @@ through-next {s} {at} i t h e = record {
 pub along-start : (s : List ℕ) (at : ℕ) → at ≤ length s → Along s at at
 along-start s at h = record { rises = omega arith; within = h; texts = λ o w. (w, λ k. refl) }
 
-pub text-step : (o : Open) (w : List ℕ) (k : Element → State) (at b : ℕ) → text-byte b ≡ true → step (text o w k) at b ≡ some (text o (w ++ (b ∷ [])) k)
+pub text-step : (o : Open) (w : List ℕ) (k : Element → State) (at b : ℕ) → text-byte b ≡ true → step (in-text o w k) at b ≡ some (in-text o (w ++ (b ∷ [])) k)
 unfolding step
 text-step o w k at b e = rw e
 

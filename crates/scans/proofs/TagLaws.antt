@@ -10,7 +10,7 @@ use lib.ListN.{length, getD}
 use borrow.Author.Tests.{eqb-true}
 use Rattle.paper.specs.Bytes.{bytes, is, capital, letter-or-digit, same}
 use Rattle.paper.specs.Form.{Element, amount-tag}
-use Rattle.paper.specs.Reading.{State, naming, capitals, blank, named, in-amount, step, ended, stops-at}
+use Rattle.paper.specs.Computed.Reading.{State, naming, capitals, blank, behind-name, in-amount, step, ended, stops-at}
 use Rattle.scans.specs.Scans.{from, Word, Capitals, CapitalAt, Tag, Opened, opens-currency, stops}
 use Rattle.scans.specs.declared.Scan.{Scan}
 use Rattle.scans.specs.declared.Scan.the-variants.{To, StopsAt}
@@ -77,11 +77,11 @@ module _ (s : List ℕ) (depth lt : ℕ) where
 
 -- behind a name
 named-stuck : (depth lt : ℕ) (name : List ℕ) (k : Element → State) (at b : ℕ)
-    → (b ≡ 62 → same name (bytes "InstdAmt") ≡ true) → (b ≡ 32 → same name (bytes "InstdAmt") ≡ false) → named depth lt name k at b ≡ none
-unfolding named is
+    → (b ≡ 62 → same name (bytes "InstdAmt") ≡ true) → (b ≡ 32 → same name (bytes "InstdAmt") ≡ false) → behind-name depth lt name k at b ≡ none
+unfolding behind-name is
 named-stuck depth lt name k at b f g = go (is ">" b) refl (is " " b) refl
   where
-    go : (c : Bool) → is ">" b ≡ c → (d : Bool) → is " " b ≡ d → named depth lt name k at b ≡ none
+    go : (c : Bool) → is ">" b ≡ c → (d : Bool) → is " " b ≡ d → behind-name depth lt name k at b ≡ none
     go true x d y = rw (x, f (eqb-true b 62 x))
     go false x true y = rw (x, y, g (eqb-true b 32 y))
     go false x false y = rw (x, y)

@@ -6,7 +6,7 @@ use mathlib.Core.Path.{_≡_}
 use lib.ListN.{length, getD, take, drop}
 use Rattle.paper.specs.Bytes.{bytes, white, text-byte, capital, letter-or-digit}
 use Rattle.paper.specs.Form.{Element}
-use Rattle.paper.specs.Reading.{Open, State, opening, before, after, angle, want, blank, text, naming, capitals, in-amount, run, Reading, stops-at}
+use Rattle.paper.specs.Computed.Reading.{Open, State, opening, before, after, angle, want, blank, in-text, naming, capitals, in-amount, run, Reading, stops-at}
 use Rattle.scans.specs.declared.Scan.{Scan}
 use Rattle.scans.specs.declared.Scan.the-variants.{To, StopsAt}
 use Rattle.grammar.specs.Stays.{Stays}
@@ -79,7 +79,7 @@ opens-currency depth lt k = want (bytes "Ccy=\"") (capitals 2 [] (in-amount dept
 pub record Along (s : List ℕ) (at r : ℕ) : Type 0 where
   pub rises : at ≤ r
   pub within : r ≤ length s
-  pub texts : (o : Open) (w : List ℕ) → (w′ : List ℕ) × ((k : Element → State) → from s (text o w k) at ≡ from s (text o w′ k) r)
+  pub texts : (o : Open) (w : List ℕ) → (w′ : List ℕ) × ((k : Element → State) → from s (in-text o w k) at ≡ from s (in-text o w′ k) r)
 
 -- text up to the first other byte
 pub record Text (s : List ℕ) (at r : ℕ) : Type 0 where
@@ -98,7 +98,7 @@ pub record ChildAt (s : List ℕ) (at : ℕ) (r : Bool) : Type 0 where
 
 -- the text of an element of a name, and its end tag
 abbrev pub TextOf : (s name : List ℕ) (at : ℕ) → Scan → Type 0
-TextOf s name at r = (o : Open) (w : List ℕ) → o .name ≡ name → Read s at (text o w) r
+TextOf s name at r = (o : Open) (w : List ℕ) → o .name ≡ name → Read s at (in-text o w) r
 
 -- Elements whose depth and what is left of it make 12: what one holds, with its end tag; and a child, behind its `<`.
 pub record ContentOf (s name : List ℕ) (at left : ℕ) (r : Scan) : Type 0 where

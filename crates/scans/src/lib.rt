@@ -5,7 +5,7 @@ ghost use Prim.Native.Nat.{ℕ, _≤_, _<_};
 ghost use lib.ListN.{length, getD};
 ghost use Rattle.paper.specs.Bytes.{bytes, letter-or-digit, same};
 ghost use Rattle.paper.specs.Form.{end-tag};
-ghost use Rattle.paper.specs.Reading.{naming};
+ghost use Rattle.paper.specs.Computed.Reading.{naming};
 ghost use Rattle.scans.specs.Scans.{Word, Opened, White, Name, Text, CapitalAt, Capitals, opens-currency};
 
 // Some part of the message was read to an offset, or stops at one.

@@ -5,7 +5,7 @@ use mathlib.Core.Path.{_≡_}
 use borrow.Author.Tests.{lt-ltb, le-ltb}
 use lib.ListN.{length}
 use Rattle.paper.specs.Form.{Element, IsMessage, FirstImpossible, OfTheForm as IsOfTheForm}
-use Rattle.paper.specs.Reading.{read, stops-at}
+use Rattle.paper.specs.Computed.Reading.{read, stops-at}
 use Rattle.paper.specs.Rows.{rows}
 use Rattle.paper.specs.Refusals.{refuse, size-refusal, largest-message, refused-as, unless-refused, of-reading, outcome-alone}
 use Rattle.paper.specs.Answers.{refusal-of, numbered}

@@ -4,7 +4,7 @@ use mathlib.Core.List.{List}
 use mathlib.Core.Path.{_≡_}
 use lib.ListN.{length}
 use Rattle.paper.specs.Form.{Element}
-use Rattle.paper.specs.Reading.{read, root-is}
+use Rattle.paper.specs.Computed.Reading.{read, root-is}
 use Rattle.paper.specs.Rows.{rows}
 use Rattle.paper.specs.Refusals.{refused-as, outcome-alone}
 use Rattle.paper.specs.Answers.{refusal-of}

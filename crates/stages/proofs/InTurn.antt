@@ -7,7 +7,7 @@ use mathlib.Core.Path.{_≡_, refl, sym, _∙_, ap, subst}
 use borrow.Author.Tests.{le-ltb}
 use lib.ListN.{length}
 use Rattle.paper.specs.Form.{Element}
-use Rattle.paper.specs.Reading.{read, root-is}
+use Rattle.paper.specs.Computed.Reading.{read, root-is}
 use Rattle.paper.specs.Rows.{rows}
 use Rattle.paper.specs.Payments.{blocks, payments, total}
 use Rattle.paper.specs.Refusals.{Refusal, refuse, _or-else_, size-refusal, largest-message, refused-as, accepted-with, unless-refused, of-reading, outcome-alone, tree-refusal, rows-refusal, limits-refusal, values-refusal, usage-refusal, ids-refusal, total-refusal, counts-refusal}

@@ -1,6 +1,6 @@
 -- `form::prologue` meets its contract: the declaration, if the message begins with `<?`.
 use native.Mathlib.Omega.{arith}
-use Rattle.paper.specs.Reading.{before}
+use Rattle.paper.specs.Computed.Reading.{before}
 use Rattle.paper.specs.Form.{declaration}
 use Rattle.paper.specs.Bytes.{bytes}
 use Rattle.form.proofs.RootLaws.{declared, undeclared}

@@ -1,6 +1,6 @@
 -- `scans::end_tag` meets its contract: `</`, the name, and then `>`.
 use Rattle.paper.specs.Bytes.{bytes}
-use Rattle.paper.specs.Reading.{want}
+use Rattle.paper.specs.Computed.Reading.{want}
 use mathlib.Core.List.{_++_}
 use Rattle.paper.specs.Form.{end-tag}
 use Rattle.scans.proofs.Laws.{reached, halts, first, via, chain, want-append}

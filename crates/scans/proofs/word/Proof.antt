@@ -3,7 +3,7 @@ use borrow.Author.Needs.{needs}
 use Prim.Native.Nat.{_+_, _-_, _≤_}
 use mathlib.Core.Path.{_≡_, refl, _∙_}
 use lib.ListN.{length, drop}
-use Rattle.paper.specs.Reading.{State, want}
+use Rattle.paper.specs.Computed.Reading.{State, want}
 use Rattle.scans.specs.Scans.{from, stops}
 use Rattle.scans.proofs.Laws.{word-next, word-stuck, word-short, word-end, went}
 use Rattle.scans.proofs.word.Statement.{statement}

@@ -1,5 +1,5 @@
--- The written form, read from left to right. The grammar of `Form` says what is of the form; this says the same byte by byte, so that it can be computed:
--- the root's element where the text is of the form, and otherwise the offset of refusal 2.
+-- The written form, read from left to right: the root's element where the text is of the form, and otherwise the offset of refusal 2. Nothing here need be
+-- believed (Computed.antt says why).
 use Prim.Native.Nat.{ℕ, zero, suc, _+_}
 use Prim.Native.Char.{code}
 use mathlib.Core.List.{List, [], _∷_, _++_}
@@ -36,8 +36,8 @@ pub data State : Type 0 where
   -- in an element: nothing or white space so far; text that is not all white space; at least one child (the function puts those read so far before those
   -- to come)
   blank : Open → List ℕ → (Element → State) → State
-  text : Open → List ℕ → (Element → State) → State
-  among : Open → (Elements → Elements) → (Element → State) → State
+  in-text : Open → List ℕ → (Element → State) → State
+  after-child : Open → (Elements → Elements) → (Element → State) → State
   -- the root has ended
   after : Element → State
 
@@ -67,8 +67,8 @@ in-amount depth from k currency =
     }) [] k)
 
 -- behind the name of a start tag that began at offset `from`: its end, or the currency of an `InstdAmt`
-unfoldable pub named : (depth from : ℕ) → List ℕ → (Element → State) → (at b : ℕ) → Option State
-named depth from name k at b =
+unfoldable pub behind-name : (depth from : ℕ) → List ℕ → (Element → State) → (at b : ℕ) → Option State
+behind-name depth from name k at b =
     if is ">" b then
     (if same name (bytes "InstdAmt") then none else
     some (blank (record { name = name; currency = []; at = from; start = suc at; depth = depth }) [] k))
@@ -89,26 +89,26 @@ step before at b = if white b then some before else if is "<" b then some (want 
 step (angle depth from q k) at b =
     if letter b then (if leb depth 12 then some (naming depth from (b ∷ []) 31 k) else none) else
     if is "/" b then some q else none
-step (naming depth from name zero k) at b = if letter-or-digit b then none else named depth from name k at b
+step (naming depth from name zero k) at b = if letter-or-digit b then none else behind-name depth from name k at b
 step (naming depth from name (suc room) k) at b =
-    if letter-or-digit b then some (naming depth from (name ++ (b ∷ [])) room k) else named depth from name k at b
+    if letter-or-digit b then some (naming depth from (name ++ (b ∷ [])) room k) else behind-name depth from name k at b
 step (capitals zero letters k) at b = if capital b then some (k (letters ++ (b ∷ []))) else none
 step (capitals (suc n) letters k) at b = if capital b then some (capitals n (letters ++ (b ∷ [])) k) else none
 step (blank o w k) at b =
     if white b then some (blank o (w ++ (b ∷ [])) k) else
     if is "<" b then
-    some (angle (suc (o .depth)) at (ending o (holding-text (closed o at) w) k) (λ t. among o (λ ts. t ∷ᵉ ts) k))
+    some (angle (suc (o .depth)) at (ending o (holding-text (closed o at) w) k) (λ t. after-child o (λ ts. t ∷ᵉ ts) k))
     else
-    if text-byte b then some (text o (w ++ (b ∷ [])) k) else none
-step (text o w k) at b =
-    if text-byte b then some (text o (w ++ (b ∷ [])) k) else
+    if text-byte b then some (in-text o (w ++ (b ∷ [])) k) else none
+step (in-text o w k) at b =
+    if text-byte b then some (in-text o (w ++ (b ∷ [])) k) else
     if is "<" b then some (fixed (code "/") [] (ending o (holding-text (closed o at) w) k)) else none
-step (among o before-these k) at b =
-    if white b then some (among o before-these k) else
+step (after-child o before-these k) at b =
+    if white b then some (after-child o before-these k) else
     if is "<" b then
     some
     (angle (suc (o .depth)) at (ending o (holding-elements (closed o at) (before-these []ᵉ)) k)
-    (λ t. among o (λ ts. before-these (t ∷ᵉ ts)) k))
+    (λ t. after-child o (λ ts. before-these (t ∷ᵉ ts)) k))
     else none
 step (after t) at b = if white b then some (after t) else none
 
@@ -122,8 +122,8 @@ ended (angle depth from q k) = none
 ended (naming depth from name room k) = none
 ended (capitals n letters k) = none
 ended (blank o w k) = none
-ended (text o w k) = none
-ended (among o before-these k) = none
+ended (in-text o w k) = none
+ended (after-child o before-these k) = none
 
 -- What the text is: of the form, with its root; or refused at an offset.
 pub data Reading : Type 0 where

@@ -1,0 +1,90 @@
+-- What stands in a message whose root conforms to the rows: its blocks and payments, the leaves that must be there, and the pairs of the table.
+use Prim.Native.Nat.{ℕ, suc, _<_}
+use native.Mathlib.Omega.{arith}
+use mathlib.Core.List.{List, [], _∷_, map}
+use mathlib.Core.Bool.{true, false, _&&_}
+use mathlib.Core.Option.{Option, none, some}
+use mathlib.Core.Path.{_≡_, refl, sym, subst}
+use mathlib.Core.Logic.{⊎-elim, _⊎_}
+use lib.ListN.{getD}
+use Rattle.paper.specs.Form.{Head, Element}
+use Rattle.paper.specs.Rows.{Row, row-of, Conforms}
+use Rattle.paper.specs.Payments.{Payment, all-of, child, follow, blocks, of-header, payments, payments-of, payments-from, in-payment, in-block, either-of, inherited}
+use Rattle.paper.specs.Table.{pairs, must-be-there, PairsThere}
+use Rattle.paper.specs.Accepted.{All, all-none, all-more, Each, each-none, each-more, There, AnyText, RowsKept, Used, UsageKept, AcceptedTree}
+use Rattle.paper.proofs.Laws.{false-not-true, some-not-none, both-left, both-right, all-joined}
+use Rattle.acceptance.proofs.Routes.{steps, must-steps, step-all, follow-conforms, follow-there, EndsAs}
+use Rattle.acceptance.proofs.Proper.{leads, Proper}
+
+module _ (profile : List Row) (proper : Proper profile) (Right : (parent : ℕ) → Row → Head → List ℕ → Type 0) where
+  -- an element that conforms to row k under a parent
+  abbrev pub As : (parent k : ℕ) → Element → Type 0
+  As parent k t = Conforms profile Right t parent (row-of profile parent k)
+
+  pub stands : (parent k : ℕ) (route : List ℕ) (t : Element) → leads profile parent k route ≡ true → As parent k t → There (follow route t)
+  stands parent k route t e c =
+      follow-there profile Right (proper .apart) parent k route t (both-left (steps profile parent k route) _ e) (both-right (steps profile parent k route) _ e) c
+
+  pub ends-as : (parent k : ℕ) (route : List ℕ) (t u : Element) → leads profile parent k route ≡ true → As parent k t → follow route t ≡ some u
+      → EndsAs profile Right parent k route u
+  ends-as parent k route t u e c f = follow-conforms profile Right (proper .apart) parent k route t u (both-left (steps profile parent k route) _ e) c f
+
+  -- a payment's own element and its block's
+  pub record PaymentAs (p : Payment) : Type 0 where
+    pub own-as : As 10 37 (p .own)
+    pub block-as : As 2 10 (p .block)
+
+  mapped : (n : ℕ) (b : Element) → As 2 10 b → {ts : List Element} → All (As 10 37) ts → All PaymentAs (map (λ t. record { own = t; block = b; block-number = n }) ts)
+  mapped n b c all-none = all-none
+  mapped n b c (all-more h k) = all-more (record { own-as = h; block-as = c }) (mapped n b c k)
+
+  payments-as-from : (n : ℕ) {bs : List Element} → All (As 2 10) bs → All PaymentAs (payments-from n bs)
+  unfolding payments-from payments-of steps
+  payments-as-from n all-none = all-none
+  payments-as-from n (all-more {a = b} h k) =
+      all-joined (mapped n b h (step-all profile Right (proper .apart) 2 10 37 b (both-left _ _ (proper .to-payments)) h)) (payments-as-from (suc n) k)
+
+  module _ (root : Element) (conforms : As 0 1 root) where
+    pub blocks-as : All (As 2 10) (blocks root)
+    unfolding blocks steps EndsAs follow
+    blocks-as = go (child 2 root) refl
+      where
+        go : (o : Option Element) → child 2 root ≡ o → All (As 2 10) (elim o [ none ↦ [] | some order ↦ all-of 10 order ])
+        go none e = all-none
+        go (some order) e =
+            step-all profile Right (proper .apart) 1 2 10 order (both-left _ _ (proper .to-blocks))
+            (follow-conforms profile Right (proper .apart) 0 1 (2 ∷ []) root order (proper .to-order) conforms (there e))
+          where
+            there : {o : Option Element} → o ≡ some order → _≡_ {A = Option Element} (elim o [ none ↦ none | some v ↦ some v ]) (some order)
+            there e = rw e
+
+    pub payments-as : All PaymentAs (payments root)
+    unfolding payments
+    payments-as = payments-as-from 0 blocks-as
+
+-- No pair of an accepted payment's row is absent but the ultimate debtor's, the fourth.
+either-there : {o q : Option Element} → There o ⊎ There q → There (either-of o q)
+unfolding either-of
+either-there {o = none} {q = q} h = ⊎-elim (λ t. some-not-none (sym (t .is-it))) (λ t. t) h
+either-there {o = some t} {q = q} h = record { it = t; is-it = refl }
+
+module _ (profile : List Row) (proper : Proper profile) (Right : (parent : ℕ) → Row → Head → List ℕ → Type 0) where
+  pairs-there : (p : Payment) → PaymentAs profile proper Right p → Used p → PairsThere p
+  unfolding PairsThere must-be-there pairs in-payment in-block inherited
+  pairs-there p c u =
+      each-more (λ _. stands profile proper Right 10 37 (38 ∷ 40 ∷ []) (p .own) (proper .end-to-end-id) (c .own-as))
+      (each-more (λ _. stands profile proper Right 10 37 (45 ∷ 27 ∷ 28 ∷ []) (p .own) (proper .creditor-iban) (c .own-as))
+      (each-more (λ _. stands profile proper Right 10 37 (44 ∷ 25 ∷ []) (p .own) (proper .creditor-name) (c .own-as))
+      (each-more (λ e. false-not-true e)
+      (each-more (λ _. either-there (u .somewhere))
+      (each-more (λ _. stands profile proper Right 2 10 (26 ∷ 27 ∷ 28 ∷ []) (p .block) (proper .debtor-iban) (c .block-as)) each-none)))))
+
+-- two statements of each of a list
+both-of : {A : Type 0} {P Q R : A → Type 0} {l : List A} → ((a : A) → P a → Q a → R a) → All P l → All Q l → All R l
+both-of f all-none all-none = all-none
+both-of f (all-more p h) (all-more q k) = all-more (f _ p q) (both-of f h k)
+
+pub no-other-absent : (profile : List Row) → Proper profile → (root : Element) → AcceptedTree profile root → All PairsThere (payments root)
+unfolding RowsKept UsageKept
+no-other-absent profile proper root a =
+    both-of (pairs-there profile proper AnyText) (payments-as profile proper AnyText root (a .but-counts .rows)) (a .but-counts .usage)
