@@ -267,3 +267,19 @@ module _ (profile : List Row) (proper : Proper profile) (n : ℕ) (s : List ℕ)
 
       back : (least-table ≤ n) × (length s ≤ largest-message) × FirstImpossible s k → verdict profile n s ≡ two-at k
       back h = ap answer-to (long-and-short (h .0) (h .1) ∙ ap (of-reading profile) (refusal-is-stop s k (h .2)))
+
+-- a table of the least length is long enough
+long-alone : (profile : List Row) (s : List ℕ) → outcome profile least-table s ≡ outcome-alone profile s
+unfolding outcome
+long-alone profile s = unless-none (table-kept least-table .1 (omega arith))
+
+-- No refusal has the number 0, also where no table is lent.
+pub not-zero : (profile : List Row) → Proper profile → (s : List ℕ) {r : Refusal} → outcome-alone profile s ≡ refused-as r → r .number ≡ 0 → ⊥
+unfolding verdict answer-to refused
+not-zero profile proper s {r} e z =
+    let o : outcome profile least-table s ≡ refused-as r = long-alone profile s ∙ e in
+    let n : verdict profile least-table s .number ≡ 0 = ap (λ (q : Outcome). answer-to q .number) o ∙ z in
+    let a = accepts-with-table profile proper least-table s (omega arith) .1 (accepted-zero profile proper least-table s .0 n .1) in
+    let q : refused-as r ≡ accepted-with (a .0) = sym o ∙ a .1 in
+    let y : _≡_ {A = ℕ} 0 1 = cc in
+    omega (arith, y)

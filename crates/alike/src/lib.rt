@@ -6,15 +6,15 @@ ghost use mathlib.Core.Option.{Option, none};
 ghost use Prim.Native.Nat.{ℕ};
 ghost use Rattle.paper.specs.Form.{Element};
 ghost use Rattle.paper.specs.Payments.{Payment};
-ghost use Rattle.paper.specs.Fields.{given, given-or, remittance, same-value};
+ghost use Rattle.paper.specs.Fields.{a-text, text-value, text-value-or, cents-value, remittance-value, same-value};
 ghost use Rattle.tree.specs.Laid.{Laid};
 ghost use Rattle.routes.specs.Finds.{Finds};
 ghost use Rattle.leaves.specs.Readable.{ReadMoney};
-ghost use Rattle.alike.specs.Alike.{cents-of, InPayment, free-of, issuer-of, reference-of};
+ghost use Rattle.alike.specs.Alike.{InPayment, free-of, issuer-of, reference-of};
 
 // An element that may be absent has the text that its absence means.
 fn means(s: &[u8], tree: &[u16], found: Found, otherwise: &[u8]) -> bool
-    ensures { λ r. ⌜ ((o : Option Element) → Finds (now (s .entry)) (now (tree .entry)) o found → r ≡ same-value (now (otherwise .entry) ∷ []) (given-or (now (otherwise .entry)) o)) ⌝ }
+    ensures { λ r. ⌜ ((o : Option Element) → Finds (now (s .entry)) (now (tree .entry)) o found → r ≡ same-value (a-text (now (otherwise .entry))) (text-value-or (now (otherwise .entry)) o)) ⌝ }
 {
     let Found::At(i) = found else {
         return true;
@@ -32,7 +32,7 @@ pub fn same_or(
     found2: Found,
     otherwise: &[u8],
 ) -> bool
-    ensures { λ r. ⌜ ((o u : Option Element) → Finds (now (s1 .entry)) (now (tree1 .entry)) o found1 → Finds (now (s2 .entry)) (now (tree2 .entry)) u found2 → r ≡ same-value (given-or (now (otherwise .entry)) o) (given-or (now (otherwise .entry)) u)) ⌝ }
+    ensures { λ r. ⌜ ((o u : Option Element) → Finds (now (s1 .entry)) (now (tree1 .entry)) o found1 → Finds (now (s2 .entry)) (now (tree2 .entry)) u found2 → r ≡ same-value (text-value-or (now (otherwise .entry)) o) (text-value-or (now (otherwise .entry)) u)) ⌝ }
 {
     let Found::At(i) = found1 else {
         return means(s2, tree2, found2, otherwise);
@@ -52,7 +52,7 @@ pub fn same_given(
     tree2: &[u16],
     found2: Found,
 ) -> bool
-    ensures { λ r. ⌜ ((o u : Option Element) → Finds (now (s1 .entry)) (now (tree1 .entry)) o found1 → Finds (now (s2 .entry)) (now (tree2 .entry)) u found2 → r ≡ same-value (given o) (given u)) ⌝ }
+    ensures { λ r. ⌜ ((o u : Option Element) → Finds (now (s1 .entry)) (now (tree1 .entry)) o found1 → Finds (now (s2 .entry)) (now (tree2 .entry)) u found2 → r ≡ same-value (text-value o) (text-value u)) ⌝ }
 {
     let Found::At(i) = found1 else {
         match found2 {
@@ -66,14 +66,28 @@ pub fn same_given(
     texts::same(leaves::text(s1, tree1, i), leaves::text(s2, tree2, j))
 }
 
-// The cents of an amount; 0 where there is none.
-pub fn cents(s: &[u8], tree: &[u16], found: Found) -> u64
-    ensures { λ r. ⌜ ((o : Option Element) → Finds (now (s .entry)) (now (tree .entry)) o found → ReadMoney o → r ≡ cents-of o) ⌝ }
+// Both amounts are absent, or both are there with the same number of cents.
+pub fn same_cents(
+    s1: &[u8],
+    tree1: &[u16],
+    found1: Found,
+    s2: &[u8],
+    tree2: &[u16],
+    found2: Found,
+) -> bool
+    ensures { λ r. ⌜ ((o u : Option Element) → Finds (now (s1 .entry)) (now (tree1 .entry)) o found1 → Finds (now (s2 .entry)) (now (tree2 .entry)) u found2
+        → ReadMoney o → ReadMoney u → r ≡ same-value (cents-value o) (cents-value u)) ⌝ }
 {
-    let Found::At(i) = found else {
-        return 0;
+    let Found::At(i) = found1 else {
+        match found2 {
+            Found::At(_) => return false,
+            Found::Nothing => return true,
+        }
     };
-    leaves::cents_at(s, tree, i)
+    let Found::At(j) = found2 else {
+        return false;
+    };
+    leaves::cents_at(s1, tree1, i) == leaves::cents_at(s2, tree2, j)
 }
 
 // Remittance: the free text, the issuer, the reference.
@@ -105,7 +119,7 @@ fn same_structured(
     tree2: &[u16],
     own2: usize,
 ) -> bool
-    ensures { λ r. ⌜ ((p q : Payment) (m n : ℕ) → Laid (now (s1 .entry)) (now (tree1 .entry)) (p .own) own1 m → Laid (now (s2 .entry)) (now (tree2 .entry)) (q .own) own2 n → r ≡ same-value (remittance none (issuer-of p) (reference-of p)) (remittance none (issuer-of q) (reference-of q))) ⌝ }
+    ensures { λ r. ⌜ ((p q : Payment) (m n : ℕ) → Laid (now (s1 .entry)) (now (tree1 .entry)) (p .own) own1 m → Laid (now (s2 .entry)) (now (tree2 .entry)) (q .own) own2 n → r ≡ same-value (remittance-value none (issuer-of p) (reference-of p)) (remittance-value none (issuer-of q) (reference-of q))) ⌝ }
 {
     let reference1 = reference(s1, tree1, own1);
     let reference2 = reference(s2, tree2, own2);
@@ -129,7 +143,7 @@ pub fn same_remittance(
     tree2: &[u16],
     own2: usize,
 ) -> bool
-    ensures { λ r. ⌜ ((p q : Payment) (m n : ℕ) → Laid (now (s1 .entry)) (now (tree1 .entry)) (p .own) own1 m → Laid (now (s2 .entry)) (now (tree2 .entry)) (q .own) own2 n → r ≡ same-value (remittance (free-of p) (issuer-of p) (reference-of p)) (remittance (free-of q) (issuer-of q) (reference-of q))) ⌝ }
+    ensures { λ r. ⌜ ((p q : Payment) (m n : ℕ) → Laid (now (s1 .entry)) (now (tree1 .entry)) (p .own) own1 m → Laid (now (s2 .entry)) (now (tree2 .entry)) (q .own) own2 n → r ≡ same-value (remittance-value (free-of p) (issuer-of p) (reference-of p)) (remittance-value (free-of q) (issuer-of q) (reference-of q))) ⌝ }
 {
     let free1 = free(s1, tree1, own1);
     let free2 = free(s2, tree2, own2);

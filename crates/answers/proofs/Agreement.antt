@@ -1,13 +1,13 @@
--- An answer is known by the paper's numbers for it: two answers with the same numbers are the same.
+-- An answer is known by the rules' numbers for it: two answers with the same numbers are the same.
 use Prim.Native.Nat.{ℕ}
 use mathlib.Core.Option.{Option, none, some}
 use mathlib.Core.Path.{_≡_, refl, sym, ap, _∙_}
 use lib.Dec.{eqb}
+use mathlib.Core.Bool.{false}
 use Rattle.paper.specs.Bytes.{if_then_else_}
-use Rattle.paper.specs.Refusals.{Refusal, Answer, refused, accepted, Returned}
-use Rattle.paper.specs.Regrouping.{message-refused, answered}
-use Rattle.paper.specs.Regrouping as moves
-use Rattle.paper.specs.Answers.{numbered, refusal-of, refusal-found, answer-of, regrouping-of}
+use Rattle.paper.specs.Refusals.{Refusal, MessageAnswer, refused, accepted}
+use Rattle.paper.specs.Regrouping.{RegroupingAnswer, message-refused, answered}
+use Rattle.paper.specs.Answers.{numbered, refusal-of, refusal-found, verdict-says, regrouping-says}
 use Rattle.paper.specs.declared.Fault.{Fault}
 use Rattle.paper.specs.declared.Fault.the-variants.{TableTooShort, MessageTooLong, NotOfTheForm, NotAllowedThere, Missing, TooMany, EmptyOrTooLong, CharacterNotInTheSet, ValueNotAllowed, InPaymentAndBlock, InNeither, BlockIdRepeated, TotalTooLarge, CountDiffers, SumDiffers}
 use Rattle.paper.specs.declared.Finding.{Finding}
@@ -16,7 +16,7 @@ use Rattle.paper.specs.declared.Verdict.{Verdict}
 use Rattle.paper.specs.declared.Verdict.the-variants.{Accepted, Refused}
 use Rattle.paper.specs.declared.Regrouping.{Regrouping}
 use Rattle.paper.specs.declared.Regrouping.the-variants as regrouping
-use Rattle.answers.specs.Numbers.{Numbers, as-returned, as-regrouping-returned}
+use Rattle.answers.specs.Numbers.{Numbers, as-answer, as-regrouping-answer}
 use Rattle.answers.specs.declared.Refusal.{Refusal as OfFault}
 use Rattle.answers.specs.declared.OfMessage.{OfMessage}
 use Rattle.answers.specs.declared.OfRegrouping.{OfRegrouping}
@@ -69,32 +69,50 @@ finding-again (finding.Refused fault) = ap finding.Refused (fault-again fault)
 pub one-finding : (f g : Finding) → refusal-found f ≡ refusal-found g → f ≡ g
 one-finding f g e = sym (finding-again f) ∙ ap finding-by e ∙ finding-again g
 
-verdict-by : Answer → Verdict
-verdict-by (accepted blocks payments cents) = Accepted blocks payments cents
-verdict-by (refused r) = Refused (fault-by (r .number) (r .element) (r .offset))
+verdict-by : MessageAnswer → Verdict
+verdict-by a =
+    if eqb (a .number) 0 then Accepted (a .blocks) (a .payments) (a .cents) else Refused (fault-by (a .number) (a .element) (a .offset))
 
-verdict-again : (v : Verdict) → verdict-by (answer-of v) ≡ v
-unfolding verdict-by answer-of
+-- no refusal has the number 0
+pub no-zero : (f : Fault) → eqb (refusal-of f .number) 0 ≡ false
+unfolding refusal-of numbered
+no-zero TableTooShort = refl
+no-zero MessageTooLong = refl
+no-zero (NotOfTheForm o) = refl
+no-zero (NotAllowedThere e o) = refl
+no-zero (Missing e o) = refl
+no-zero (TooMany e o) = refl
+no-zero (EmptyOrTooLong e o) = refl
+no-zero (CharacterNotInTheSet e o) = refl
+no-zero (ValueNotAllowed e o) = refl
+no-zero (InPaymentAndBlock e o) = refl
+no-zero (InNeither o) = refl
+no-zero (BlockIdRepeated o) = refl
+no-zero (TotalTooLarge o) = refl
+no-zero (CountDiffers e o) = refl
+no-zero (SumDiffers e o) = refl
+
+verdict-again : (v : Verdict) → verdict-by (verdict-says v) ≡ v
+unfolding verdict-by verdict-says refused accepted
 verdict-again (Accepted blocks payments cents) = refl
-verdict-again (Refused fault) = ap Refused (fault-again fault)
+verdict-again (Refused fault) = rw (no-zero fault) (ap Refused (fault-again fault))
 
-pub one-verdict : (v w : Verdict) → answer-of v ≡ answer-of w → v ≡ w
+pub one-verdict : (v w : Verdict) → verdict-says v ≡ verdict-says w → v ≡ w
 one-verdict v w e = sym (verdict-again v) ∙ ap verdict-by e ∙ verdict-again w
 
-regrouping-by : moves.Answer → Regrouping
-regrouping-by (message-refused whose r) =
-    if eqb whose 1 then regrouping.FirstRefused (fault-by (r .number) (r .element) (r .offset)) else
-    regrouping.SecondRefused (fault-by (r .number) (r .element) (r .offset))
-regrouping-by (answered number k field) =
-    if eqb number 0 then regrouping.Accepted else
-    if eqb number 15 then regrouping.NumbersOfPaymentsDiffer else
-    if eqb number 16 then regrouping.ListNotOfTheForm else
-    if eqb number 17 then regrouping.CountNotTheNumberOfPayments else
-    if eqb number 18 then regrouping.OrdinalTooLarge k else
-    if eqb number 19 then regrouping.NamedBefore k else regrouping.FieldsDiffer k field
+regrouping-by : RegroupingAnswer → Regrouping
+regrouping-by a =
+    if eqb (a .whose) 1 then regrouping.FirstRefused (fault-by (a .number) (a .element) (a .offset)) else
+    if eqb (a .whose) 2 then regrouping.SecondRefused (fault-by (a .number) (a .element) (a .offset)) else
+    if eqb (a .number) 0 then regrouping.Accepted else
+    if eqb (a .number) 15 then regrouping.NumbersOfPaymentsDiffer else
+    if eqb (a .number) 16 then regrouping.ListNotOfTheForm else
+    if eqb (a .number) 17 then regrouping.CountNotTheNumberOfPayments else
+    if eqb (a .number) 18 then regrouping.OrdinalTooLarge (a .k) else
+    if eqb (a .number) 19 then regrouping.NamedBefore (a .k) else regrouping.FieldsDiffer (a .k) (a .field)
 
-regrouping-again : (r : Regrouping) → regrouping-by (regrouping-of r) ≡ r
-unfolding regrouping-by regrouping-of
+regrouping-again : (r : Regrouping) → regrouping-by (regrouping-says r) ≡ r
+unfolding regrouping-by regrouping-says message-refused answered
 regrouping-again regrouping.Accepted = refl
 regrouping-again (regrouping.FirstRefused fault) = ap regrouping.FirstRefused (fault-again fault)
 regrouping-again (regrouping.SecondRefused fault) = ap regrouping.SecondRefused (fault-again fault)
@@ -105,7 +123,7 @@ regrouping-again (regrouping.OrdinalTooLarge k) = refl
 regrouping-again (regrouping.NamedBefore k) = refl
 regrouping-again (regrouping.FieldsDiffer k field) = refl
 
-pub one-regrouping : (r q : Regrouping) → regrouping-of r ≡ regrouping-of q → r ≡ q
+pub one-regrouping : (r q : Regrouping) → regrouping-says r ≡ regrouping-says q → r ≡ q
 one-regrouping r q e = sym (regrouping-again r) ∙ ap regrouping-by e ∙ regrouping-again q
 
 -- a refusal is known by its three numbers
@@ -120,19 +138,19 @@ one-refusal p r q a b =
         → _≡_ {A = OfFault} (record { number = n; element = e; offset = o }) (record { number = m; element = f; offset = u })
     same-fields x y z = rw (x, y, z)
 
--- what is returned is known by its six numbers
-message-by : Returned → OfMessage
+-- what C gets is known by its six numbers
+message-by : MessageAnswer → OfMessage
 message-by p =
     record { number = p .number; element = p .element; offset = p .offset; blocks = p .blocks; payments = p .payments; cents = p .cents }
 
-pub one-returned : (r q : OfMessage) → as-returned r ≡ as-returned q → r ≡ q
-unfolding message-by as-returned
-one-returned r q e = ap message-by e
+pub one-message : (r q : OfMessage) → as-answer r ≡ as-answer q → r ≡ q
+unfolding message-by as-answer
+one-message r q e = ap message-by e
 
-returned-by : moves.Returned → OfRegrouping
-returned-by p =
+six-by : RegroupingAnswer → OfRegrouping
+six-by p =
     record { whose = p .whose; number = p .number; element = p .element; offset = p .offset; k = p .k; field = p .field }
 
-pub one-regrouping-returned : (r q : OfRegrouping) → as-regrouping-returned r ≡ as-regrouping-returned q → r ≡ q
-unfolding returned-by as-regrouping-returned
-one-regrouping-returned r q e = ap returned-by e
+pub one-six : (r q : OfRegrouping) → as-regrouping-answer r ≡ as-regrouping-answer q → r ≡ q
+unfolding six-by as-regrouping-answer
+one-six r q e = ap six-by e

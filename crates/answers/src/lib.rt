@@ -1,12 +1,11 @@
-// The answers as document 01's numbers.
+// The answers as the rules' numbers.
 use paper::Fault;
 use paper::Regrouping;
 use paper::Verdict;
 ghost use mathlib.Core.Path.{_≡_};
-ghost use Rattle.paper.specs.Refusals.{returned};
-ghost use Rattle.paper.specs.Regrouping.{returned as regrouping-returned, message-refused, answered};
-ghost use Rattle.paper.specs.Answers.{refusal-of, answer-of, regrouping-of};
-ghost use Rattle.answers.specs.Numbers.{Numbers, as-returned, as-regrouping-returned};
+ghost use Rattle.paper.specs.Regrouping.{message-refused, answered as answers-with};
+ghost use Rattle.paper.specs.Answers.{refusal-of, verdict-says, regrouping-says};
+ghost use Rattle.answers.specs.Numbers.{Numbers, as-answer, as-regrouping-answer};
 
 pub struct Refusal {
     pub number: usize,
@@ -58,7 +57,7 @@ pub struct OfMessage {
 }
 
 pub fn of_message(verdict: Verdict) -> OfMessage
-    ensures { λ r. ⌜ as-returned r ≡ returned (answer-of verdict) ⌝ }
+    ensures { λ r. ⌜ as-answer r ≡ verdict-says verdict ⌝ }
 {
     match verdict {
         Verdict::Accepted {
@@ -100,7 +99,7 @@ pub struct OfRegrouping {
 
 // A message's own refusal.
 fn refused_of(whose: u64, fault: Fault) -> OfRegrouping
-    ensures { λ r. ⌜ as-regrouping-returned r ≡ regrouping-returned (message-refused whose (refusal-of fault)) ⌝ }
+    ensures { λ r. ⌜ as-regrouping-answer r ≡ message-refused whose (refusal-of fault) ⌝ }
 {
     let refusal = refusal_of(fault);
     OfRegrouping {
@@ -114,7 +113,7 @@ fn refused_of(whose: u64, fault: Fault) -> OfRegrouping
 }
 
 fn answered(number: u64, k: usize, field: usize) -> OfRegrouping
-    ensures { λ r. ⌜ as-regrouping-returned r ≡ regrouping-returned (answered number k field) ⌝ }
+    ensures { λ r. ⌜ as-regrouping-answer r ≡ answers-with number k field ⌝ }
 {
     OfRegrouping {
         whose: 0,
@@ -127,7 +126,7 @@ fn answered(number: u64, k: usize, field: usize) -> OfRegrouping
 }
 
 pub fn of_regrouping(answer: Regrouping) -> OfRegrouping
-    ensures { λ r. ⌜ as-regrouping-returned r ≡ regrouping-returned (regrouping-of answer) ⌝ }
+    ensures { λ r. ⌜ as-regrouping-answer r ≡ regrouping-says answer ⌝ }
 {
     match answer {
         Regrouping::Accepted => answered(0, 0, 0),

@@ -1,11 +1,10 @@
 -- What is said where two payments are compared.
 use Prim.Native.Nat.{ℕ, _-_}
-use mathlib.Core.List.{List, []}
+use mathlib.Core.List.{List}
 use mathlib.Core.Option.{Option, none, some}
 use lib.ListN.{getD}
-use Rattle.paper.specs.Rows.{rows}
 use Rattle.paper.specs.Payments.{Payment}
-use Rattle.paper.specs.Fields.{Value, values-of}
+use Rattle.paper.specs.Fields.{Value, absent, values-of}
 use Rattle.tree.specs.Laid.{Laid}
 use Rattle.leaves.specs.Readable.{ReadMoney}
 use Rattle.compared.specs.declared.Field.{Field}
@@ -22,7 +21,7 @@ pub record Stands (s tree : List ℕ) (own block : ℕ) (p : Payment) : Type 0 w
 
 -- a field of a payment
 abbrev pub value-at : (field : ℕ) → Payment → Value
-value-at field p = getD (values-of rows p) (field - 1) []
+value-at field p = getD (values-of p) (field - 1) absent
 
 -- none or the lowest field
 unfoldable pub lowest : Field → Option ℕ

@@ -1,7 +1,6 @@
 // The lowest of the seventeen fields in which two payments differ.
 ghost use mathlib.Core.Path.{_≡_};
-ghost use Prim.Native.Nat.{_+_, _<_, _≤_};
-ghost use Rattle.paper.specs.Rows.{rows};
+ghost use Prim.Native.Nat.{_<_, _≤_};
 ghost use Rattle.paper.specs.Payments.{Payment};
 ghost use Rattle.paper.specs.Fields.{same-value, values-of, differ-from};
 ghost use Rattle.compared.specs.Compared.{Stands, value-at, lowest};
@@ -38,7 +37,7 @@ fn same_field(
         return alike::same_or(s1, tree1, mine, s2, tree2, theirs, b"NORM");
     }
     if field == 11 {
-        return alike::cents(s1, tree1, mine) == alike::cents(s2, tree2, theirs);
+        return alike::same_cents(s1, tree1, mine, s2, tree2, theirs);
     }
     alike::same_given(s1, tree1, mine, s2, tree2, theirs)
 }
@@ -54,7 +53,7 @@ pub fn differing(
     own2: usize,
     block2: usize,
 ) -> Field
-    ensures { λ r. ⌜ ((p q : Payment) → Stands (now (s1 .entry)) (now (tree1 .entry)) own1 block1 p → Stands (now (s2 .entry)) (now (tree2 .entry)) own2 block2 q → lowest r ≡ differ-from 1 (values-of rows p) (values-of rows q)) ⌝ }
+    ensures { λ r. ⌜ ((p q : Payment) → Stands (now (s1 .entry)) (now (tree1 .entry)) own1 block1 p → Stands (now (s2 .entry)) (now (tree2 .entry)) own2 block2 q → lowest r ≡ differ-from 1 (values-of p) (values-of q)) ⌝ }
 {
     let mut field = 1;
     while field < 18 {

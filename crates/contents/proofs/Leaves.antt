@@ -1,18 +1,18 @@
 -- Laws about elements that hold text: in a group, and in a leaf.
 use Prim.Native.Nat.{ℕ, suc, _+_, _-_, _<_, _≤_}
 use mathlib.Core.List.{List, [], _∷_}
-use mathlib.Core.Bool.{Bool, true, false, _||_, not}
-use mathlib.Core.Option.{Option, none, some}
+use mathlib.Core.Bool.{Bool, true, false, not}
+use mathlib.Core.Option.{Option, none}
 use mathlib.Core.Path.{_≡_, refl, sym, ap, _∙_}
 use native.Mathlib.Omega.{arith}
 use lib.Dec.{eqb}
 use lib.ListN.{length, drop, length-take, length-drop}
 use borrow.Author.Tests.{eqb-true, eqb-false, ne-eqb}
-use Rattle.paper.specs.Bytes.{if_then_else_, bytes, is, white, value-character, every}
+use Rattle.paper.specs.Bytes.{if_then_else_, bytes, white, value-character, every}
 use Rattle.paper.specs.Form.{Head}
-use Rattle.paper.specs.Rows.{Place, Row}
-use Rattle.paper.specs.Values.{lies-from, allowed}
-use Rattle.paper.specs.Refusals.{Refusal, refuse, first-not, ends, only-white, longest-of, leaf-refusal}
+use Rattle.paper.specs.Rows.{Place, Row, longest-of}
+use Rattle.paper.specs.Values.{right-for, lies-from, allowed}
+use Rattle.paper.specs.Refusals.{from-here, Refusal, refuse, first-not, ends, only-white, leaf-refusal}
 use Rattle.paper.proofs.Laws.{number-of, offset-of}
 use Rattle.texts.proofs.Laws.{none-first, one-first}
 use Rattle.tree.specs.Laid.{between, Entry}
@@ -29,7 +29,7 @@ module _ (ps : List Place) (h : Head) {t w : List ℕ} (text-is : t ≡ w) where
       let f : first-not white w < length w = rw text-is at (rw r at l) in
       rw (p, q, r, text-is, one-first white w f)
 
-  pub white-ends : (row : ℕ) {o : Option Refusal} {black : ℕ} → black ≡ first-not white t → length t ≤ black → o ≡ ends ps (h .close) → o ≡ only-white row ps h w
+  pub white-ends : (row : ℕ) {o : Option Refusal} {black : ℕ} → black ≡ first-not white t → length t ≤ black → o ≡ ends (from-here ps) (h .close) → o ≡ only-white row ps h w
   unfolding only-white
   white-ends row r l e =
       let f : length w ≤ first-not white w = rw text-is at (rw r at l) in
@@ -50,7 +50,7 @@ part-within from to s = omega (arith, length-take (to - from) (drop from s), len
 
 -- a rule that is not row 42's asks for no currency
 any-currency : (parent row : ℕ) (c d w : List ℕ) → (row ≡ 42 → ⊥) → allowed parent row c w ≡ allowed parent row d w
-unfolding allowed
+unfolding allowed right-for
 any-currency parent row c d w n = rw (ne-eqb row 42 n)
 
 leaf-any : (parent : ℕ) (r : Row) (h : Head) (c w : List ℕ) → (r .row ≡ 42 → ⊥)
@@ -62,7 +62,7 @@ leaf-any parent r h c w n = rw (any-currency parent (r .row) (h .currency) c w n
 seven-first : (parent : ℕ) (r : Row) (h : Head) (w : List ℕ) (row k : ℕ) → leaf-refusal parent r h w ≡ refuse 7 row (h .start + k) → k ≡ first-not value-character w
 unfolding leaf-refusal refuse number-of offset-of
 seven-first parent r h w row k e =
-    go (not (lies-from 1 (longest-of (r .holds)) (length w))) (not (every value-character w)) (every (is " ") w || not (allowed parent (r .row) (h .currency) w)) e
+    go (not (lies-from 1 (longest-of (r .holds)) (length w))) (not (every value-character w)) (not (allowed parent (r .row) (h .currency) w)) e
   where
     go : (a b c : Bool)
         → (if a then refuse 6 (r .row) (h .at) else if b then refuse 7 (r .row) (h .start + first-not value-character w) else if c then refuse 8 (r .row) (h .at) else none)

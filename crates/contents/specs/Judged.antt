@@ -6,8 +6,8 @@ use mathlib.Core.Option.{Option}
 use mathlib.Core.Path.{_≡_}
 use Rattle.paper.specs.Bytes.{bytes}
 use Rattle.paper.specs.Form.{Head}
-use Rattle.paper.specs.Rows.{Row}
-use Rattle.paper.specs.Refusals.{Refusal, no-judgement, longest-of, leaf-refusal}
+use Rattle.paper.specs.Rows.{Row, longest-of}
+use Rattle.paper.specs.Refusals.{Refusal, no-judgement, leaf-refusal}
 use Rattle.paper.specs.Answers.{refusal-found}
 use Rattle.tree.specs.Laid.{between, Entry}
 use Rattle.paper.specs.declared.Finding.{Finding}

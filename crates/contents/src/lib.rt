@@ -8,7 +8,7 @@ ghost use Prim.Native.Nat.{ℕ, _+_, _≤_, _<_};
 ghost use lib.ListN.{length};
 ghost use Rattle.paper.specs.Bytes.{white};
 ghost use Rattle.paper.specs.Form.{Head};
-ghost use Rattle.paper.specs.Refusals.{ends, refuse, only-white, first-not};
+ghost use Rattle.paper.specs.Refusals.{refuse, only-white, first-not};
 ghost use Rattle.paper.specs.Answers.{refusal-found};
 ghost use Rattle.tree.specs.Laid.{between, Entry};
 ghost use Rattle.places.specs.Numbers.{of-entry, places-between};

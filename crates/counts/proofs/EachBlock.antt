@@ -8,7 +8,6 @@ use native.Mathlib.Numerals.{add-one}
 use lib.ListN.{length, getD, length-append, length-map}
 use lib.Dec.{eqb}
 use Rattle.paper.specs.Form.{Element}
-use Rattle.paper.specs.Rows.{rows}
 use Rattle.paper.specs.Values.{number, cents}
 use Rattle.paper.specs.Payments.{Payment, child, all-of, blocks, payments-of, payments-from, payments, sum-of, total}
 use Rattle.paper.specs.Refusals.{Refusal, unless, _or-else_, block-counts, counts-refusal}
@@ -88,34 +87,34 @@ module _ {s tree out : List ℕ} where
   payments-right {k} {n} (p ∷ ps) (more-payments a at) e = payments-right ps at (let x : n ≡ k + 1 + length ps = omega arith in x)
 
 -- the payments of a block and those of the blocks behind it
-mine-are : (k : ℕ) (b : Element) → All (InBlock k) (payments-of rows k b)
+mine-are : (k : ℕ) (b : Element) → All (InBlock k) (payments-of k b)
 unfolding payments-of
-mine-are k b = go (all-of rows 10 37 b)
+mine-are k b = go (all-of 37 b)
   where
     go : (ts : List Element) → All (InBlock k) (map (λ t. record { own = t; block = b; block-number = k }) ts)
     go [] = all-none
     go (t ∷ ts) = all-more refl (go ts)
 
-behind-are : (k m : ℕ) → k < m → (bs : List Element) → All (BehindBlock k) (payments-from rows m bs)
+behind-are : (k m : ℕ) → k < m → (bs : List Element) → All (BehindBlock k) (payments-from m bs)
 unfolding payments-from payments-of
 behind-are k m h [] = all-none
-behind-are k m h (b ∷ bs) = all-joined (go (all-of rows 10 37 b)) (behind-are k (suc m) (omega arith) bs)
+behind-are k m h (b ∷ bs) = all-joined (go (all-of 37 b)) (behind-are k (suc m) (omega arith) bs)
   where
     go : (ts : List Element) → All (BehindBlock k) (map (λ t. record { own = t; block = b; block-number = m }) ts)
     go [] = all-none
     go (t ∷ ts) = all-more h (go ts)
 
-owns-are : (k : ℕ) (b : Element) → map (λ p. p .own) (payments-of rows k b) ≡ all-of rows 10 37 b
+owns-are : (k : ℕ) (b : Element) → map (λ p. p .own) (payments-of k b) ≡ all-of 37 b
 unfolding payments-of
-owns-are k b = go (all-of rows 10 37 b)
+owns-are k b = go (all-of 37 b)
   where
     go : (ts : List Element) → map (λ (p : Payment). p .own) (map (λ (t : Element). record { own = t; block = b; block-number = k }) ts) ≡ ts
     go [] = refl
     go (t ∷ ts) = ap (λ (l : List Element). t ∷ l) (go ts)
 
-payments-split : (k : ℕ) (b : Element) (bs : List Element) → payments-from rows k (b ∷ bs) ≡ payments-of rows k b ++ payments-from rows (k + 1) bs
+payments-split : (k : ℕ) (b : Element) (bs : List Element) → payments-from k (b ∷ bs) ≡ payments-of k b ++ payments-from (k + 1) bs
 unfolding payments-from
-payments-split k b bs = ap (λ (m : ℕ). payments-of rows k b ++ payments-from rows m bs) (sym (add-one k))
+payments-split k b bs = ap (λ (m : ℕ). payments-of k b ++ payments-from m bs) (sym (add-one k))
 
 -- refusals one after the other
 or-joined : (a b c : Option Refusal) → a or-else (b or-else c) ≡ (a or-else b) or-else c
@@ -127,20 +126,20 @@ module _ (r a b : Finding) {x y : Option Refusal} (first : refusal-found r ≡ r
   pub both-found : refusal-found r ≡ x or-else y
   both-found = first ∙ ap (λ (o : Option Refusal). o or-else refusal-found b) p ∙ ap (λ (o : Option Refusal). x or-else o) q
 
-block-counts-more : (b : Element) (bs : List Element) → block-counts rows (b ∷ bs) ≡ block-refusal b or-else block-counts rows bs
+block-counts-more : (b : Element) (bs : List Element) → block-counts (b ∷ bs) ≡ block-refusal b or-else block-counts bs
 unfolding block-counts block-refusal
 block-counts-more b bs = or-joined _ _ _
 
 -- one block's count and sum, by its payments
-module _ (b : Element) (ps : List Payment) (from : ℕ) {to : ℕ} (many : to ≡ from + length ps) (owns : map (λ p. p .own) ps ≡ all-of rows 10 37 b) where
-  pub block-is : unless (λ w. eqb (number w) (to - from)) 12 14 (child rows 10 14 b) or-else unless (λ w. eqb (cents w) (amounts ps)) 13 15 (child rows 10 15 b)
+module _ (b : Element) (ps : List Payment) (from : ℕ) {to : ℕ} (many : to ≡ from + length ps) (owns : map (λ p. p .own) ps ≡ all-of 37 b) where
+  pub block-is : unless (λ w. eqb (number w) (to - from)) 12 14 (child 14 b) or-else unless (λ w. eqb (cents w) (amounts ps)) 13 15 (child 15 b)
       ≡ block-refusal b
   unfolding block-refusal
   block-is =
-      let x : to - from ≡ length (all-of rows 10 37 b) = omega (arith, length-map ps (λ (p : Payment). p .own), ap length owns) in
-      ap (λ (n : ℕ). unless (λ w. eqb (number w) n) 12 14 (child rows 10 14 b) or-else unless (λ w. eqb (cents w) (amounts ps)) 13 15 (child rows 10 15 b)) x ∙
-      ap (λ (ts : List Element). unless (λ w. eqb (number w) (length (all-of rows 10 37 b))) 12 14 (child rows 10 14 b) or-else
-      unless (λ w. eqb (cents w) (sum-of rows ts)) 13 15 (child rows 10 15 b)) owns
+      let x : to - from ≡ length (all-of 37 b) = omega (arith, length-map ps (λ (p : Payment). p .own), ap length owns) in
+      ap (λ (n : ℕ). unless (λ w. eqb (number w) n) 12 14 (child 14 b) or-else unless (λ w. eqb (cents w) (amounts ps)) 13 15 (child 15 b)) x ∙
+      ap (λ (ts : List Element). unless (λ w. eqb (number w) (length (all-of 37 b))) 12 14 (child 14 b) or-else
+      unless (λ w. eqb (cents w) (sum-of ts)) 13 15 (child 15 b)) owns
 
 -- what `block_end` and `in_block` answer
 abbrev pub EndsAt : (out : List ℕ) (k from n to : ℕ) → Type 0
@@ -151,13 +150,13 @@ EndsAt out k from n to =
 abbrev pub BlockSays : (s tree out : List ℕ) (block from to : ℕ) (f : Finding) → Type 0
 BlockSays s tree out block from to f =
     (b : Element) (next : ℕ) (ps : List Payment) → Laid s tree b block next → PaymentsAt s tree out from ps → to ≡ from + length ps → to ≤ 64
-    → map (λ p. p .own) ps ≡ all-of rows 10 37 b → ReadBlock b → All ReadPayment ps → refusal-found f ≡ block-refusal b
+    → map (λ p. p .own) ps ≡ all-of 37 b → ReadBlock b → All ReadPayment ps → refusal-found f ≡ block-refusal b
 
 -- Block k is next, with its payments from payment n on: what is left decides.
 pub record BlocksLeft (s tree out : List ℕ) (k n many-blocks many-payments : ℕ) (bs : List Element) : Type 0 where
   rest : List Element
   rest-from : BlocksFrom s tree out k n many-blocks many-payments rest
-  refusal-is : block-counts rows bs ≡ block-counts rows rest
+  refusal-is : block-counts bs ≡ block-counts rest
 
 -- One block, with its own refusal, and the blocks behind it.
 record OneBlock (s tree out : List ℕ) (k n many-blocks many-payments : ℕ) (bs : List Element) (to : ℕ) (f : Finding) : Type 0 where
@@ -165,16 +164,16 @@ record OneBlock (s tree out : List ℕ) (k n many-blocks many-payments : ℕ) (b
   others : List Element
   found-is : refusal-found f ≡ block-refusal one
   others-from : BlocksFrom s tree out (k + 1) to many-blocks many-payments others
-  split : block-counts rows bs ≡ block-refusal one or-else block-counts rows others
+  split : block-counts bs ≡ block-refusal one or-else block-counts others
 
 module _ {s tree out : List ℕ} {bs : List Element} {many-blocks many-payments : ℕ} where
   pub blocks-left : {k n : ℕ} → BlocksFrom s tree out k n many-blocks many-payments bs → BlocksLeft s tree out k n many-blocks many-payments bs
   blocks-left w = record { rest = bs; rest-from = w; refusal-is = refl }
 
   module _ {k n : ℕ} (w : BlocksLeft s tree out k n many-blocks many-payments bs) where
-    pub blocks-done : many-blocks ≤ k → refusal-found finding.Nothing ≡ block-counts rows bs
+    pub blocks-done : many-blocks ≤ k → refusal-found finding.Nothing ≡ block-counts bs
     unfolding refusal-found block-counts
-    blocks-done h = sym (w .refusal-is ∙ ap (block-counts rows) (no-block-left (w .rest-from .blocks-at) (w .rest-from .blocks-many) h))
+    blocks-done h = sym (w .refusal-is ∙ ap (block-counts) (no-block-left (w .rest-from .blocks-at) (w .rest-from .blocks-many) h))
 
     module _ {to block : ℕ} (f : Finding) (h : k < many-blocks) (here : block ≡ getD out k 0) (ends : EndsAt out k n many-payments to)
         (says : BlockSays s tree out block n to f) where
@@ -183,9 +182,9 @@ module _ {s tree out : List ℕ} {bs : List Element} {many-blocks many-payments 
           let v = w .rest-from in
           let x = first-block (v .blocks-at) (v .blocks-many) h in
           let b = x .one in
-          let ps = payments-of rows k b in
-          let qs = payments-from rows (k + 1) (x .others) in
-          let parts : payments-from rows k (w .rest) ≡ ps ++ qs = ap (payments-from rows k) (x .first-is) ∙ payments-split k b (x .others) in
+          let ps = payments-of k b in
+          let qs = payments-from (k + 1) (x .others) in
+          let parts : payments-from k (w .rest) ≡ ps ++ qs = ap (payments-from k) (x .first-is) ∙ payments-split k b (x .others) in
           let at : PaymentsAt s tree out n (ps ++ qs) = subst (PaymentsAt s tree out n) parts (v .payments-at) in
           let many : many-payments ≡ n + length (ps ++ qs) = v .payments-many ∙ ap (λ (l : List Payment). n + length l) parts in
           let read : All ReadPayment (ps ++ qs) = subst (All ReadPayment) parts (v .read-payments) in
@@ -208,24 +207,24 @@ module _ {s tree out : List ℕ} {bs : List Element} {many-blocks many-payments 
                   read-blocks = others-have (x .first-is) (v .read-blocks);
                   read-payments = all-right ps read;
                 };
-            split = w .refusal-is ∙ ap (block-counts rows) (x .first-is) ∙ block-counts-more b (x .others);
+            split = w .refusal-is ∙ ap (block-counts) (x .first-is) ∙ block-counts-more b (x .others);
           }
 
-      pub block-refused : {fault : Fault} → f ≡ finding.Refused fault → refusal-found f ≡ block-counts rows bs
+      pub block-refused : {fault : Fault} → f ≡ finding.Refused fault → refusal-found f ≡ block-counts bs
       block-refused e =
           let o = one-block in
-          found-first (block-refusal (o .one)) (block-counts rows (o .others)) f (o .found-is) e ∙ sym (o .split)
+          found-first (block-refusal (o .one)) (block-counts (o .others)) f (o .found-is) e ∙ sym (o .split)
 
       pub block-passed : f ≡ finding.Nothing → BlocksLeft s tree out (k + 1) to many-blocks many-payments bs
       block-passed e =
           let o = one-block in
-          record { rest = o .others; rest-from = o .others-from; refusal-is = o .split ∙ later (block-counts rows (o .others)) (o .found-is) e }
+          record { rest = o .others; rest-from = o .others-from; refusal-is = o .split ∙ later (block-counts (o .others)) (o .found-is) e }
 
 -- the whole: header, then blocks
 module _ {s tree out : List ℕ} {root : Element} {many-blocks many-payments : ℕ} (ordered : Ordered s tree out root)
-    (all-blocks : many-blocks ≡ length (blocks rows root)) (all-payments : many-payments ≡ length (payments rows root)) (few : many-payments ≤ 64)
+    (all-blocks : many-blocks ≡ length (blocks root)) (all-payments : many-payments ≡ length (payments root)) (few : many-payments ≤ 64)
     (read : Readable root) where
-  pub all-from : BlocksFrom s tree out 0 0 many-blocks many-payments (blocks rows root)
+  pub all-from : BlocksFrom s tree out 0 0 many-blocks many-payments (blocks root)
   unfolding payments
   all-from =
       record {
@@ -238,9 +237,9 @@ module _ {s tree out : List ℕ} {root : Element} {many-blocks many-payments : �
         read-payments = read .in-payments;
       }
 
-pub whole-is : (root : Element) {n c : ℕ} → n ≡ length (payments rows root) → c ≡ total rows root
-    → header-refusal n c root or-else block-counts rows (blocks rows root) ≡ counts-refusal rows root
+pub whole-is : (root : Element) {n c : ℕ} → n ≡ length (payments root) → c ≡ total root
+    → header-refusal n c root or-else block-counts (blocks root) ≡ counts-refusal root
 unfolding counts-refusal header-refusal
 whole-is root {c = c} e d =
-    ap (λ (n : ℕ). header-refusal n c root or-else block-counts rows (blocks rows root)) e ∙
-    ap (λ (m : ℕ). header-refusal (length (payments rows root)) m root or-else block-counts rows (blocks rows root)) d ∙ sym (or-joined _ _ _)
+    ap (λ (n : ℕ). header-refusal n c root or-else block-counts (blocks root)) e ∙
+    ap (λ (m : ℕ). header-refusal (length (payments root)) m root or-else block-counts (blocks root)) d ∙ sym (or-joined _ _ _)

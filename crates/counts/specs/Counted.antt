@@ -6,7 +6,6 @@ use mathlib.Core.Path.{_≡_}
 use lib.ListN.{length}
 use lib.Dec.{eqb}
 use Rattle.paper.specs.Form.{Element}
-use Rattle.paper.specs.Rows.{rows}
 use Rattle.paper.specs.Values.{number, cents}
 use Rattle.paper.specs.Payments.{Payment, child, all-of, of-header, payments-from, payments, sum-of}
 use Rattle.paper.specs.Refusals.{Refusal, _or-else_, unless}
@@ -25,18 +24,18 @@ BehindBlock k p = k < p .block-number
 pub record BlocksFrom (s tree out : List ℕ) (k n many-blocks many-payments : ℕ) (bs : List Element) : Type 0 where
   pub blocks-at : BlocksAt s tree out k bs
   pub blocks-many : many-blocks ≡ k + length bs
-  pub payments-at : PaymentsAt s tree out n (payments-from rows k bs)
-  pub payments-many : many-payments ≡ n + length (payments-from rows k bs)
+  pub payments-at : PaymentsAt s tree out n (payments-from k bs)
+  pub payments-many : many-payments ≡ n + length (payments-from k bs)
   pub few : many-payments ≤ 64
   pub read-blocks : All ReadBlock bs
-  pub read-payments : All ReadPayment (payments-from rows k bs)
+  pub read-payments : All ReadPayment (payments-from k bs)
 
 -- 12 and 13 of the header, with the true numbers, and of one block
 unfoldable pub header-refusal : (payments cents : ℕ) → Element → Option Refusal
 header-refusal n c root =
-    unless (λ w. eqb (number w) n) 12 6 (of-header rows 6 root) or-else unless (λ w. eqb (cents w) c) 13 7 (of-header rows 7 root)
+    unless (λ w. eqb (number w) n) 12 6 (of-header 6 root) or-else unless (λ w. eqb (cents w) c) 13 7 (of-header 7 root)
 
 unfoldable pub block-refusal : Element → Option Refusal
 block-refusal b =
-    unless (λ w. eqb (number w) (length (all-of rows 10 37 b))) 12 14 (child rows 10 14 b) or-else
-    unless (λ w. eqb (cents w) (sum-of rows (all-of rows 10 37 b))) 13 15 (child rows 10 15 b)
+    unless (λ w. eqb (number w) (length (all-of 37 b))) 12 14 (child 14 b) or-else
+    unless (λ w. eqb (cents w) (sum-of (all-of 37 b))) 13 15 (child 15 b)

@@ -10,9 +10,8 @@ ghost use Prim.Native.Nat.{ℕ, _+_, _*_, _<_, _≤_};
 ghost use lib.ListN.{length, getD};
 ghost use lib.Dec.{eqb};
 ghost use Rattle.paper.specs.Form.{Element};
-ghost use Rattle.paper.specs.Rows.{rows};
 ghost use Rattle.paper.specs.Values.{number, cents};
-ghost use Rattle.paper.specs.Payments.{Payment, child, all-of, of-header, blocks as all-blocks, payments as all-payments, total as total-of};
+ghost use Rattle.paper.specs.Payments.{Payment, all-of, of-header, blocks as all-blocks, payments as all-payments, total as total-of};
 ghost use Rattle.paper.specs.Refusals.{_or-else_, unless, counts-refusal, block-counts};
 ghost use Rattle.paper.specs.Answers.{refusal-found};
 ghost use Rattle.paper.specs.Accepted.{All};
@@ -48,7 +47,10 @@ fn count_is(s: &[u8], tree: &[u16], found: Found, row: usize, n: usize) -> Findi
     ensures { λ r. ⌜ ((o : Option Element) → Finds (now (s .entry)) (now (tree .entry)) o found → ReadCount o → refusal-found r ≡ unless (λ w. eqb (number w) n) 12 row o) ⌝ }
 {
     let Found::At(i) = found else {
-        return Finding::Nothing;
+        return Finding::Refused(Fault::CountDiffers {
+            element: row,
+            offset: 0,
+        });
     };
     if leaves::count_at(s, tree, i) == n as u64 {
         return Finding::Nothing;
@@ -74,7 +76,10 @@ fn sum_is(s: &[u8], tree: &[u16], found: Found, row: usize, sum: Sum) -> Finding
     ensures { λ r. ⌜ ((o : Option Element) (n : ℕ) → Finds (now (s .entry)) (now (tree .entry)) o found → ReadMoney o → Sums n sum → refusal-found r ≡ unless (λ w. eqb (cents w) n) 13 row o) ⌝ }
 {
     let Found::At(i) = found else {
-        return Finding::Nothing;
+        return Finding::Refused(Fault::SumDiffers {
+            element: row,
+            offset: 0,
+        });
     };
     if same_cents(leaves::cents_at(s, tree, i), sum) {
         return Finding::Nothing;
@@ -101,7 +106,7 @@ fn block_end(out: &[u16], k: usize, from: usize, payments: usize) -> usize
 
 // 12 and 13 of the block at element `block`, whose payments stand from one up to another.
 fn in_block(s: &[u8], tree: &[u16], out: &[u16], block: usize, from: usize, to: usize) -> Finding
-    ensures { λ r. ⌜ ((b : Element) (next : ℕ) (ps : List Payment) → Laid (now (s .entry)) (now (tree .entry)) b block next → PaymentsAt (now (s .entry)) (now (tree .entry)) (now (out .entry)) from ps → to ≡ from + length ps → to ≤ 64 → map (λ p. p .own) ps ≡ all-of rows 10 37 b → ReadBlock b → All ReadPayment ps → refusal-found r ≡ block-refusal b) ⌝ }
+    ensures { λ r. ⌜ ((b : Element) (next : ℕ) (ps : List Payment) → Laid (now (s .entry)) (now (tree .entry)) b block next → PaymentsAt (now (s .entry)) (now (tree .entry)) (now (out .entry)) from ps → to ≡ from + length ps → to ≤ 64 → map (λ p. p .own) ps ≡ all-of 37 b → ReadBlock b → All ReadPayment ps → refusal-found r ≡ block-refusal b) ⌝ }
 {
     if to < from {
         return Finding::Nothing;
@@ -121,7 +126,7 @@ fn in_block(s: &[u8], tree: &[u16], out: &[u16], block: usize, from: usize, to: 
 
 // 12 and 13 of each block.
 fn in_blocks(s: &[u8], tree: &[u16], out: &[u16], blocks: usize, payments: usize) -> Finding
-    ensures { λ r. ⌜ ((bs : List Element) → BlocksFrom (now (s .entry)) (now (tree .entry)) (now (out .entry)) 0 0 blocks payments bs → refusal-found r ≡ block-counts rows bs) ⌝ }
+    ensures { λ r. ⌜ ((bs : List Element) → BlocksFrom (now (s .entry)) (now (tree .entry)) (now (out .entry)) 0 0 blocks payments bs → refusal-found r ≡ block-counts bs) ⌝ }
 {
     let mut k = 0;
     let mut from = 0;
@@ -139,7 +144,7 @@ fn in_blocks(s: &[u8], tree: &[u16], out: &[u16], blocks: usize, payments: usize
 
 // 12 and 13 of the header, whose numbers cover the whole message.
 fn in_header(s: &[u8], tree: &[u16], payments: usize, total: u64) -> Finding
-    ensures { λ r. ⌜ ((root : Element) (next : ℕ) → Laid (now (s .entry)) (now (tree .entry)) root 0 next → ReadCount (of-header rows 6 root) → ReadMoney (of-header rows 7 root) → refusal-found r ≡ header-refusal payments total root) ⌝ }
+    ensures { λ r. ⌜ ((root : Element) (next : ℕ) → Laid (now (s .entry)) (now (tree .entry)) root 0 next → ReadCount (of-header 6 root) → ReadMoney (of-header 7 root) → refusal-found r ≡ header-refusal payments total root) ⌝ }
 {
     let stated_count = routes::follow3(s, tree, 0, b"CstmrCdtTrfInitn", b"GrpHdr", b"NbOfTxs");
     let count_found = count_is(s, tree, stated_count, 6, payments);
@@ -157,7 +162,7 @@ pub fn counts(
     payments: usize,
     total: u64,
 ) -> Finding
-    ensures { λ r. ⌜ ((root : Element) (next : ℕ) → Laid (now (s .entry)) (now (tree .entry)) root 0 next → Ordered (now (s .entry)) (now (tree .entry)) (now (out .entry)) root → blocks ≡ length (all-blocks rows root) → payments ≡ length (all-payments rows root) → payments ≤ 64 → total ≡ total-of rows root → Readable root → refusal-found r ≡ counts-refusal rows root) ⌝ }
+    ensures { λ r. ⌜ ((root : Element) (next : ℕ) → Laid (now (s .entry)) (now (tree .entry)) root 0 next → Ordered (now (s .entry)) (now (tree .entry)) (now (out .entry)) root → blocks ≡ length (all-blocks root) → payments ≡ length (all-payments root) → payments ≤ 64 → total ≡ total-of root → Readable root → refusal-found r ≡ counts-refusal root) ⌝ }
 {
     let header = in_header(s, tree, payments, total);
     let each = in_blocks(s, tree, out, blocks, payments);

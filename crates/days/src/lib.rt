@@ -1,7 +1,7 @@
 // Days and times. A text is a part of the message.
 ghost use mathlib.Core.Path.{_≡_};
 ghost use Prim.Native.Nat.{_<_};
-ghost use Rattle.paper.specs.Values.{number, days-in, true-day, date, date-and-time};
+ghost use Rattle.paper.specs.Values.{days-in, true-day, date, date-and-time};
 
 fn days_in(year: u64, month: u64) -> u64
     ensures { λ r. ⌜ r ≡ days-in year month ⌝ }

@@ -1,53 +1,52 @@
 -- A field stands where its route of names leads.
 use Prim.Native.Nat.{ℕ, _+_, _<_, _≤_}
-use mathlib.Core.List.{List, [], _∷_}
+use mathlib.Core.List.{List, [], _∷_, map}
 use mathlib.Core.Option.{Option, none, some}
 use mathlib.Core.Path.{_≡_, refl, sym, ap, _∙_, subst}
 use native.Mathlib.Omega.{arith}
 use lib.ListN.{List·getD-eq-default}
 use Rattle.paper.specs.Bytes.{bytes}
 use Rattle.paper.specs.Form.{Element}
-use Rattle.paper.specs.Rows.{rows, row-of, leaf, group, group-under}
+use Rattle.paper.specs.Rows.{rows, leaf, group, group-under, name-in, name}
 use Rattle.paper.specs.Payments.{Payment, in-payment, in-block, inherited, either-of}
-use Rattle.paper.specs.Fields.{field-elements, field-element}
+use Rattle.paper.specs.Fields.{Field, plain, or-means, amount-field, remittance, fields, field-element}
 use Rattle.tree.specs.Laid.{Laid}
 use Rattle.routes.specs.Finds.{Finds, found-nothing, along, names-of, Leads, LeadsEither}
 use Rattle.fields.specs.Fields.{FieldAt}
 use Rattle.routes.specs.declared.Found.{Found}
 use Rattle.routes.specs.declared.Found.the-variants.{Nothing}
-use Rattle.routes.proofs.Laws.{follow-is, inherited-is}
+use Rattle.routes.proofs.Laws.{follow-is}
 
 -- a route of the paper in a payment, in its block and in both
 module _ (route : List ℕ) {names : List (List ℕ)} (p : Payment) where
-  pub in-payment-is : names-of rows 37 route ≡ names → in-payment rows route p ≡ along names (some (p .own))
+  pub in-payment-is : names-of route ≡ names → in-payment route p ≡ along names (some (p .own))
   unfolding in-payment
-  in-payment-is e = follow-is rows 37 route (p .own) ∙ ap (λ (ns : List (List ℕ)). along ns (some (p .own))) e
+  in-payment-is e = follow-is route (p .own) ∙ ap (λ (ns : List (List ℕ)). along ns (some (p .own))) e
 
-  pub in-block-is : names-of rows 10 route ≡ names → in-block rows route p ≡ along names (some (p .block))
+  pub in-block-is : names-of route ≡ names → in-block route p ≡ along names (some (p .block))
   unfolding in-block
-  in-block-is e = follow-is rows 10 route (p .block) ∙ ap (λ (ns : List (List ℕ)). along ns (some (p .block))) e
+  in-block-is e = follow-is route (p .block) ∙ ap (λ (ns : List (List ℕ)). along ns (some (p .block))) e
 
-  pub inherited-along : names-of rows 37 route ≡ names → names-of rows 10 route ≡ names
-      → inherited rows route p ≡ either-of (along names (some (p .own))) (along names (some (p .block)))
-  inherited-along e f = inherited-is rows route p ∙ rw (in-payment-is e, in-block-is f)
+  pub inherited-along : names-of route ≡ names → inherited route p ≡ either-of (along names (some (p .own))) (along names (some (p .block)))
+  unfolding inherited
+  inherited-along e = rw (in-payment-is e, in-block-is e)
 
 -- field k, given by its route
 module _ {s tree : List ℕ} {own block field : ℕ} {found : Found} (k : ℕ) where
-  pub own-field : (route : List ℕ) {names : List (List ℕ)} → ((p : Payment) → field-element rows k p ≡ in-payment rows route p)
-      → names-of rows 37 route ≡ names → Leads s tree own names found → field ≡ k → FieldAt s tree own block field found
+  pub own-field : (route : List ℕ) {names : List (List ℕ)} → ((p : Payment) → field-element k p ≡ in-payment route p)
+      → names-of route ≡ names → Leads s tree own names found → field ≡ k → FieldAt s tree own block field found
   own-field route is e leads f p m n l b =
       rw f (subst (λ (o : Option Element). Finds s tree o found) (sym (is p ∙ in-payment-is route p e)) (leads (p .own) m l))
 
-  pub block-field : (route : List ℕ) {names : List (List ℕ)} → ((p : Payment) → field-element rows k p ≡ in-block rows route p)
-      → names-of rows 10 route ≡ names → Leads s tree block names found → field ≡ k → FieldAt s tree own block field found
+  pub block-field : (route : List ℕ) {names : List (List ℕ)} → ((p : Payment) → field-element k p ≡ in-block route p)
+      → names-of route ≡ names → Leads s tree block names found → field ≡ k → FieldAt s tree own block field found
   block-field route is e leads f p m n l b =
       rw f (subst (λ (o : Option Element). Finds s tree o found) (sym (is p ∙ in-block-is route p e)) (leads (p .block) n b))
 
-  pub inherited-field : (route : List ℕ) {names : List (List ℕ)} → ((p : Payment) → field-element rows k p ≡ inherited rows route p)
-      → names-of rows 37 route ≡ names → names-of rows 10 route ≡ names → LeadsEither s tree own block names found → field ≡ k
-      → FieldAt s tree own block field found
-  inherited-field route is e g leads f p m n l b =
-      rw f (subst (λ (o : Option Element). Finds s tree o found) (sym (is p ∙ inherited-along route p e g)) (leads (p .own) (p .block) m n l b))
+  pub inherited-field : (route : List ℕ) {names : List (List ℕ)} → ((p : Payment) → field-element k p ≡ inherited route p)
+      → names-of route ≡ names → LeadsEither s tree own block names found → field ≡ k → FieldAt s tree own block field found
+  inherited-field route is e leads f p m n l b =
+      rw f (subst (λ (o : Option Element). Finds s tree o found) (sym (is p ∙ inherited-along route p e)) (leads (p .own) (p .block) m n l b))
 
 -- Fields 7 and 17 are the first of two routes that leads to something.
 module _ {s tree : List ℕ} {own block field : ℕ} {found : Found} where
@@ -55,7 +54,7 @@ module _ {s tree : List ℕ} {own block field : ℕ} {found : Found} where
       → Finds s tree (either-of (along (bytes "DbtrAgt" ∷ bytes "FinInstnId" ∷ bytes "BICFI" ∷ []) (some t))
       (along (bytes "DbtrAgt" ∷ bytes "FinInstnId" ∷ bytes "Othr" ∷ bytes "Id" ∷ []) (some t))) found)
       → field ≡ 7 → FieldAt s tree own block field found
-  unfolding field-element field-elements names-of row-of rows leaf group group-under bytes
+  unfolding field-element fields plain or-means amount-field remittance names-of name name-in rows leaf group group-under bytes
   agent-field f e p m n l b =
       rw (e, in-block-is (29 ∷ 30 ∷ 31 ∷ []) p refl, in-block-is (29 ∷ 30 ∷ 32 ∷ 33 ∷ []) p refl) (f (p .block) n b)
 
@@ -63,7 +62,7 @@ module _ {s tree : List ℕ} {own block field : ℕ} {found : Found} where
       → Finds s tree (either-of (along (bytes "RmtInf" ∷ bytes "Ustrd" ∷ []) (some t))
       (along (bytes "RmtInf" ∷ bytes "Strd" ∷ bytes "CdtrRefInf" ∷ bytes "Ref" ∷ []) (some t))) found)
       → field ≡ 17 → FieldAt s tree own block field found
-  unfolding field-element field-elements names-of row-of rows leaf group group-under bytes
+  unfolding field-element fields plain or-means amount-field remittance names-of name name-in rows leaf group group-under bytes
   remittance-field f e p m n l b =
       rw (e, in-payment-is (48 ∷ 49 ∷ []) p refl, in-payment-is (48 ∷ 50 ∷ 51 ∷ 55 ∷ []) p refl) (f (p .own) m l)
 
@@ -74,13 +73,13 @@ below k h n = omega arith
 pub above : (k : ℕ) {field : ℕ} → k ≤ field → (field ≡ k → ⊥) → k + 1 ≤ field
 above k h n = omega arith
 
-none-first : (p : Payment) → field-element rows 0 p ≡ none
+none-first : (p : Payment) → field-element 0 p ≡ none
 unfolding field-element
 none-first p = refl
 
-none-past : (p : Payment) {field : ℕ} → 18 ≤ field → field-element rows field p ≡ none
-unfolding field-element field-elements
-none-past p h = List·getD-eq-default (none ∷ field-elements rows p) none h
+none-past : (p : Payment) {field : ℕ} → 18 ≤ field → field-element field p ≡ none
+unfolding field-element fields plain or-means amount-field remittance
+none-past p h = List·getD-eq-default (none ∷ map (λ (f : Field). f .element) (fields p)) none h
 
 module _ {s tree : List ℕ} {own block field : ℕ} where
   pub no-field : field < 1 → FieldAt s tree own block field Nothing

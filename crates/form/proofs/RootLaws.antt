@@ -12,7 +12,7 @@ use borrow.Author.Tests.{eqb-true, eqb-false, ne-eqb}
 use Rattle.paper.specs.Bytes.{bytes, is, one-of, white}
 use Rattle.paper.specs.Form.{Element, root-tag, declaration}
 use Rattle.paper.specs.Computed.Reading.{opening, opened, before, after, want, in-root, step, ended, run, read, root-is}
-use Rattle.form.specs.Answers.{Says}
+use Rattle.form.specs.Promise.{FormPromise}
 use Rattle.scans.specs.Scans.{from, Scanned, Word, White, ContentOf, Prologue, RootAt}
 use Rattle.form.specs.declared.Form.the-variants.{OfTheForm, RefusedAt}
 use Rattle.scans.specs.declared.Scan.{Scan}
@@ -133,23 +133,23 @@ unfolding step
 after-stuck t at b e = rw e
 
 -- what the answer says
-pub refused : {s : List ℕ} {r : Scan} {n : ℕ} → RootAt s 0 opening r → r ≡ StopsAt n → Says s (RefusedAt n)
-unfolding Says read from
+pub refused : {s : List ℕ} {r : Scan} {n : ℕ} → RootAt s 0 opening r → r ≡ StopsAt n → FormPromise s (RefusedAt n)
+unfolding FormPromise read from
 refused {s} {n} h e = stop-is-refusal s n (halted h e tt)
 
 module _ {s : List ℕ} {r : Scan} {p e : ℕ} (h : RootAt s 0 opening r) (z : r ≡ To p) (w : White s p e) where
   behind-root : (t : Element) × (from s opening 0 ≡ from s (after t) e)
   behind-root = let g = reached h z in (g .got, g .runs tt ∙ w .through .stays (after (g .got)) (after-stays (g .got)))
 
-  pub accepted : e ≡ length s → Says s OfTheForm
-  unfolding Says read from
+  pub accepted : e ≡ length s → FormPromise s OfTheForm
+  unfolding FormPromise read from
   accepted l = let (t, f) = behind-root in root-is-form s t (f ∙ ended-well t)
     where
       ended-well : (t : Element) → from s (after t) e ≡ root-is t
       ended-well t = unfold from run ended in rw (drop-of-length-le s {i = e} (omega arith))
 
-  pub trailing : (e ≡ length s → ⊥) → Says s (RefusedAt e)
-  unfolding Says read from
+  pub trailing : (e ≡ length s → ⊥) → FormPromise s (RefusedAt e)
+  unfolding FormPromise read from
   trailing l =
       let (t, f) = behind-root in
       let k = w .through .within in

@@ -1,2 +1,2 @@
 -- What the contracts of `form` cite.
-pub mod Answers
+pub mod Promise

@@ -8,10 +8,10 @@ ghost use Prim.Native.Nat.{_≤_, _<_};
 ghost use lib.ListN.{length, getD};
 ghost use Rattle.paper.specs.Bytes.{white};
 ghost use Rattle.paper.specs.Computed.Reading.{opening, before};
-ghost use Rattle.form.specs.Answers.{Says};
+ghost use Rattle.form.specs.Promise.{FormPromise};
 ghost use Rattle.scans.specs.Scans.{TextOf, ChildAt, ContentOf, ElementAt, Prologue, RootAt};
 
-// The answer: of the form, or refused at an offset. `Says` tells what each says of the message.
+// The answer: of the form, or refused at an offset. `FormPromise` tells what each says of the message.
 pub enum Form {
     OfTheForm,
     RefusedAt(usize),
@@ -133,7 +133,7 @@ fn root(s: &[u8]) -> Scan
 
 // Whether the message is of the form, and if not, the offset of refusal 2.
 pub fn form_of(s: &[u8]) -> Form
-    ensures { λ r. ⌜ Says (now (s .entry)) r ⌝ }
+    ensures { λ r. ⌜ FormPromise (now (s .entry)) r ⌝ }
 {
     match root(s) {
         Scan::StopsAt(n) => Form::RefusedAt(n),

@@ -1,38 +1,42 @@
--- The contracts of the two functions for the payment host determine their answers, and follow from the reader's and the regrouping's.
-use Prim.Native.Nat.{ℕ, zero, suc, _+_, _*_, _/_, _%_, _≤_}
+-- The promises of the two functions for the payment host determine their answers, and follow from the reader's and the regrouping's.
+use Prim.Native.Nat.{ℕ, zero, suc, _+_, _*_, _/_, _%_, _≤_, _<_}
 use native.Mathlib.Omega.{arith}
 use mathlib.Core.List.{List, [], _∷_, _++_}
-use mathlib.Core.Path.{_≡_, refl, sym, ap, _∙_}
+use mathlib.Core.Path.{_≡_, refl, sym, ap, _∙_, subst}
+use mathlib.Core.Logic.{_↔_}
 use lib.ListN.{length, drop}
 use Rattle.paper.specs.Bytes.{each}
-use Rattle.paper.specs.Form.{Element}
 use Rattle.paper.specs.Rows.{rows}
 use Rattle.paper.specs.Payments.{payments}
-use Rattle.paper.specs.Refusals.{Outcome, refused-as, accepted-with, least-table, outcome}
-use Rattle.paper.specs.Regrouping.{regrouping, returned}
-use Rattle.paper.specs.Table.{over, numbers-of, written, table-after}
+use Rattle.paper.specs.Refusals.{Outcome, refused-as, accepted-with, MessageAnswer, refused, accepted, answer-to, outcome, verdict}
+use Rattle.paper.specs.Sizes.{least-table}
+use Rattle.paper.specs.Accepted.{All, Accepted}
+use Rattle.paper.specs.Table.{over, written, table-after}
 use Rattle.paper.specs.Host.{four-bytes, numbers-held, bytes-after}
-use Rattle.acceptance.proofs.Apart.{rows-apart}
+use Rattle.acceptance.proofs.Proper.{rows-proper}
 use Rattle.acceptance.proofs.Outcome.{accepted-with-table, accepted-alone}
-use Rattle.answers.specs.Numbers.{as-regrouping-returned}
+use Rattle.acceptance.proofs.Accepts.{accepts-with-table}
+use Rattle.acceptance.proofs.Order as the-order
+use Rattle.pairing.proofs.Six as six
+use Rattle.pairing.proofs.Six.{SixNumbers, six-numbers}
+use Rattle.answers.specs.Numbers.{as-answer, as-regrouping-answer}
 use Rattle.answers.specs.declared.OfMessage.{OfMessage}
 use Rattle.answers.specs.declared.OfRegrouping.{OfRegrouping}
-use Rattle.answers.proofs.Agreement.{one-returned, one-regrouping-returned}
+use Rattle.answers.proofs.Agreement.{one-message, one-six}
 use Rattle.table.proofs.Filling.{all-numbers-length}
-use Rattle.host.specs.Answers.{Answers}
+use Rattle.host.specs.Promises.{HostVerdictPromise, HostRegroupPromise}
 use Rattle.host.proofs.Laws.{four-length}
 
--- two answers that meet the contract of `glowenzo_verdict`, and what they leave in the table, are the same
-pub verdicts-agree : {message before after other : List ℕ} (r q : OfMessage) → Answers message before r after → Answers message before q other → r ≡ q
-verdicts-agree r q a b = one-returned r q (a .answer-is ∙ sym (b .answer-is))
+-- two answers that keep the promise of `glowenzo_verdict`, and what they leave in the table, are the same
+pub verdicts-agree : {message before after other : List ℕ} (r q : OfMessage) → HostVerdictPromise message before r after → HostVerdictPromise message before q other → r ≡ q
+verdicts-agree r q a b = one-message r q (a .answer-is ∙ sym (b .answer-is))
 
-pub bytes-agree : {message before after other : List ℕ} {r q : OfMessage} → Answers message before r after → Answers message before q other → after ≡ other
+pub bytes-agree : {message before after other : List ℕ} {r q : OfMessage} → HostVerdictPromise message before r after → HostVerdictPromise message before q other → after ≡ other
 bytes-agree a b = a .table-is ∙ sym (b .table-is)
 
--- two answers that meet the contract of `glowenzo_regroup` are the same
-pub regroupings-agree : (first second list : List ℕ) (r q : OfRegrouping) → as-regrouping-returned r ≡ returned (regrouping rows first second list)
-    → as-regrouping-returned q ≡ returned (regrouping rows first second list) → r ≡ q
-regroupings-agree first second list r q a b = one-regrouping-returned r q (a ∙ sym b)
+-- two answers that keep the promise of `glowenzo_regroup` are the same
+pub regroupings-agree : (first second list : List ℕ) (r q : OfRegrouping) → HostRegroupPromise first second list r → HostRegroupPromise first second list q → r ≡ q
+regroupings-agree first second list r q a b = one-six r q (a ∙ sym b)
 
 -- The numbers that bytes make, and the one to three bytes that are left.
 unfoldable pub numbers-32 : List ℕ → List ℕ
@@ -93,29 +97,29 @@ held-are (a ∷ b ∷ c ∷ []) = refl
 held-are (a ∷ b ∷ c ∷ d ∷ s) = omega (arith, held-are s)
 
 -- The table afterwards, read as numbers, is the reader's.
-pub as-the-reader : (o : Outcome) (old : List ℕ) → numbers-32 (bytes-after rows o old) ≡ table-after rows o (numbers-32 old)
+pub as-the-reader : (o : Outcome) (old : List ℕ) → numbers-32 (bytes-after o old) ≡ table-after o (numbers-32 old)
 unfolding bytes-after table-after over
 as-the-reader o old =
-    let ns = written rows o in
+    let ns = written o in
     numbers-again ns (drop (length (each four-bytes ns)) old) ∙
     ap (λ (l : List ℕ). ns ++ l) (ap (λ (n : ℕ). numbers-32 (drop n old)) (four-length ns) ∙ numbers-drop (length ns) old)
 
 -- The bytes that make no number stay: an accepted message has at most 64 payments, and the table room for them.
-left-of-outcome : (o : Outcome) (old : List ℕ) → 4 * length (written rows o) ≤ length old → left-over (bytes-after rows o old) ≡ left-over old
+left-of-outcome : (o : Outcome) (old : List ℕ) → 4 * length (written o) ≤ length old → left-over (bytes-after o old) ≡ left-over old
 unfolding bytes-after over
 left-of-outcome o old h =
-    let ns = written rows o in
+    let ns = written o in
     left-again ns (drop (length (each four-bytes ns)) old) ∙ ap (λ (n : ℕ). left-over (drop n old)) (four-length ns) ∙ left-drop (length ns) old h
 
-room-for-all : (message before : List ℕ) (o : Outcome) → outcome rows (numbers-held before) message ≡ o → 4 * length (written rows o) ≤ length before
-unfolding written numbers-held least-table
+room-for-all : (message before : List ℕ) (o : Outcome) → outcome rows (numbers-held before) message ≡ o → 4 * length (written o) ≤ length before
+unfolding written numbers-held
 room-for-all message before (refused-as r) e = omega arith
 room-for-all message before (accepted-with root) e =
-    let a = accepted-with-table rows rows-apart (numbers-held before) message root .0 e in
-    let few = accepted-alone rows rows-apart message root .0 (a .1) .2 .payments-limit in
-    omega (arith, a .0, few, all-numbers-length (payments rows root))
+    let a = accepted-with-table rows rows-proper (numbers-held before) message root .0 e in
+    let few = accepted-alone rows rows-proper message root .0 (a .1) .2 .but-counts .limits .few-payments in
+    omega (arith, a .0, few, all-numbers-length (payments root))
 
-pub left-stays : {message before after : List ℕ} {r : OfMessage} → Answers message before r after → left-over after ≡ left-over before
+pub left-stays : {message before after : List ℕ} {r : OfMessage} → HostVerdictPromise message before r after → left-over after ≡ left-over before
 left-stays {message} {before} a =
     ap left-over (a .table-is) ∙ left-of-outcome (outcome rows (numbers-held before) message) before (room-for-all message before (outcome rows (numbers-held before) message) refl)
 
@@ -123,3 +127,41 @@ left-stays {message} {before} a =
 an-amount : four-bytes 999999999 ≡ 59 ∷ 154 ∷ 201 ∷ 255 ∷ []
 unfolding four-bytes
 an-amount = refl
+
+-- The six numbers. Of a message: number 0 exactly when the table is long enough and the rules hold; counts of zero on every refusal; no element and no offset where it is
+-- accepted.
+module _ {message before after : List ℕ} {r : OfMessage} (a : HostVerdictPromise message before r after) where
+  pub zero-exactly : (r .number ≡ 0) ↔ (least-table ≤ numbers-held before) × Accepted rows message
+  unfolding as-answer
+  zero-exactly =
+      let n : r .number ≡ verdict rows (numbers-held before) message .number = ap (λ (m : MessageAnswer). m .number) (a .answer-is) in
+      let z = the-order.accepted-zero rows rows-proper (numbers-held before) message in
+      ((λ e. z .0 (sym n ∙ e)), (λ h. n ∙ z .1 h))
+
+  pub refused-counts : (r .number ≡ 0 → ⊥) → (r .blocks ≡ 0) × (r .payments ≡ 0) × (r .cents ≡ 0)
+  unfolding as-answer verdict answer-to refused accepted
+  refused-counts n = go (outcome rows (numbers-held before) message) (a .answer-is)
+    where
+      go : (o : Outcome) → as-answer r ≡ answer-to o → (r .blocks ≡ 0) × (r .payments ≡ 0) × (r .cents ≡ 0)
+      go (refused-as x) e = (ap (λ (m : MessageAnswer). m .blocks) e, ap (λ (m : MessageAnswer). m .payments) e, ap (λ (m : MessageAnswer). m .cents) e)
+      go (accepted-with root) e = absurd (n (ap (λ (m : MessageAnswer). m .number) e))
+
+  pub accepted-nowhere : r .number ≡ 0 → (r .element ≡ 0) × (r .offset ≡ 0)
+  unfolding as-answer verdict answer-to accepted
+  accepted-nowhere z =
+      let h = zero-exactly .0 z in
+      let t = accepts-with-table rows rows-proper (numbers-held before) message (h .0) .1 (h .1) in
+      let e : as-answer r ≡ answer-to (accepted-with (t .0)) = a .answer-is ∙ ap answer-to (t .1) in
+      (ap (λ (m : MessageAnswer). m .element) e, ap (λ (m : MessageAnswer). m .offset) e)
+
+-- Of a regrouping: number 0 exactly when the second message regroups the first by the list; k, field, element and offset only where an answer has them.
+module _ (first second list : List ℕ) (r : OfRegrouping) (a : HostRegroupPromise first second list r) where
+  pub regrouped-exactly : All (λ b. b < 256) list → (r .number ≡ 0) ↔ Regroups rows first second list
+  unfolding as-regrouping-answer
+  regrouped-exactly h =
+      let n : r .number ≡ regrouping rows first second list .number = ap (λ (m : RegroupingAnswer). m .number) a in
+      let z = six.zero-exactly rows rows-proper first second list h in
+      ((λ e. z .0 (sym n ∙ e)), (λ g. n ∙ z .1 g))
+
+  pub regrouped-six : SixNumbers (as-regrouping-answer r)
+  regrouped-six = subst SixNumbers (sym a) (six-numbers rows rows-proper first second list)

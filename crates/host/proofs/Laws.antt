@@ -4,28 +4,29 @@ use native.Mathlib.Omega.{arith}
 use native.Mathlib.Numerals.{add-one}
 use mathlib.Core.List.{List, [], _∷_, _++_, append-assoc}
 use mathlib.Core.Path.{_≡_, refl, sym, ap, _∙_, subst}
-use borrow.Author.Tests.{lt-ltb, le-ltb}
+use borrow.Author.Tests.{lt-ltb, eqb-false}
 use lib.ListN.{length, getD, set, take, drop, length-append, length-set}
 use lib.Seq.{length-take-le, take-at, take-suc, drop-append-add, drop-drop}
 use Rattle.paper.specs.Bytes.{each}
-use Rattle.paper.specs.Form.{Element}
 use Rattle.paper.specs.Rows.{rows}
 use Rattle.paper.specs.Payments.{payments}
-use Rattle.paper.specs.Refusals.{Outcome, refused-as, accepted-with, Answer, accepted, refused, answer, refuse, least-table, table-refusal, unless-refused, outcome-alone, outcome, verdict, returned}
+use Rattle.paper.specs.Refusals.{MessageAnswer, Outcome, refused-as, accepted-with, accepted, refused, answer-to, refuse, table-refusal, unless-refused, outcome, verdict}
 use Rattle.paper.specs.Table.{over, numbers-of, written, table-after}
 use Rattle.paper.specs.Host.{four-bytes, numbers-held, bytes-after}
-use Rattle.paper.specs.Answers.{refusal-of, numbered, answer-of}
+use Rattle.paper.specs.Answers.{refusal-of, numbered, verdict-says}
 use Rattle.paper.specs.declared.Fault.{Fault}
 use Rattle.paper.specs.declared.Fault.the-variants.{TableTooShort}
 use Rattle.paper.specs.declared.Verdict.{Verdict}
 use Rattle.paper.specs.declared.Verdict.the-variants.{Accepted, Refused}
 use Rattle.paper.proofs.Laws.{each-more, each-length}
-use Rattle.answers.specs.Numbers.{as-returned}
+use Rattle.answers.specs.Numbers.{as-answer}
 use Rattle.answers.specs.declared.OfMessage.{OfMessage}
 use Rattle.table.proofs.Filling.{all-numbers-length}
-use Rattle.reader.specs.Answers as reader
+use Rattle.reader.specs.Promises.{VerdictPromise}
 use Rattle.reader.proofs.Verdicts.{long-enough}
-use Rattle.host.specs.Answers.{Answers}
+use Rattle.reader.proofs.Agreement.{Filled, accepted-fills}
+use Rattle.answers.proofs.Agreement.{no-zero}
+use Rattle.host.specs.Promises.{HostVerdictPromise}
 
 -- room for four bytes at a place, and for those after what was put
 module _ (t : List ℕ) (at a b c : ℕ) (h : at + 4 ≤ length t) where
@@ -90,71 +91,54 @@ held-long : (table : List ℕ) → 4096 ≤ length table → 1024 ≤ numbers-he
 unfolding numbers-held
 held-long table h = omega (arith, h)
 
-told : (s before after : List ℕ) (v : Verdict) {r : OfMessage} → as-returned r ≡ returned (answer-of v) → answer-of v ≡ answer rows (outcome rows (numbers-held before) s)
-    → after ≡ bytes-after rows (outcome rows (numbers-held before) s) before → Answers s before r after
+told : (s before after : List ℕ) (v : Verdict) {r : OfMessage} → as-answer r ≡ verdict-says v → verdict-says v ≡ answer-to (outcome rows (numbers-held before) s)
+    → after ≡ bytes-after (outcome rows (numbers-held before) s) before → HostVerdictPromise s before r after
 unfolding verdict
-told s before after v e a t = record { answer-is = e ∙ ap returned a; table-is = t }
+told s before after v e a t = record { answer-is = e ∙ a; table-is = t }
 
-pub too-short : (s before : List ℕ) {r : OfMessage} → length before < 4096 → as-returned r ≡ returned (answer-of (Refused TableTooShort)) → Answers s before r before
-unfolding outcome table-refusal least-table refuse unless-refused answer answer-of refusal-of numbered bytes-after over written each numbers-held
+pub too-short : (s before : List ℕ) {r : OfMessage} → length before < 4096 → as-answer r ≡ verdict-says (Refused TableTooShort) → HostVerdictPromise s before r before
+unfolding outcome table-refusal refuse unless-refused answer-to verdict-says refusal-of numbered bytes-after over written each numbers-held
 too-short s before h e =
     let l : length before / 4 < 1024 = omega (arith, h) in
     told s before before (Refused TableTooShort) e (rw (lt-ltb (length before / 4) 1024 l)) (rw (lt-ltb (length before / 4) 1024 l))
 
 -- what the reader answered with a table of its own that has room for 1,024 numbers
-module _ (s before : List ℕ) {own filled : List ℕ} {v : Verdict} (h : 4096 ≤ length before) (long : length own ≡ 1024) (a : reader.Answers s own v filled) where
+module _ (s before : List ℕ) {own filled : List ℕ} {v : Verdict} (h : 4096 ≤ length before) (long : length own ≡ 1024) (a : VerdictPromise s own v filled) where
   as-own : outcome rows (numbers-held before) s ≡ outcome rows (length own) s
   as-own = long-enough s (numbers-held before) (held-long before h) ∙ sym (long-enough s (length own) (omega (arith, long)))
 
-  pub refused-bytes : {f : Fault} {r : OfMessage} → v ≡ Refused f → as-returned r ≡ returned (answer-of (Refused f)) → Answers s before r before
-  unfolding verdict answer answer-of bytes-after over written each
+  pub refused-bytes : {f : Fault} {r : OfMessage} → v ≡ Refused f → as-answer r ≡ verdict-says (Refused f) → HostVerdictPromise s before r before
+  unfolding verdict answer-to verdict-says refused accepted bytes-after over written each
   refused-bytes {f} {r} e q = go (outcome rows (numbers-held before) s) refl
     where
-      go : (o : Outcome) → outcome rows (numbers-held before) s ≡ o → Answers s before r before
-      go (refused-as x) p = told s before before (Refused f) q (sym (ap answer-of e) ∙ a .answer-is ∙ ap (answer rows) (sym as-own)) (rw p)
+      go : (o : Outcome) → outcome rows (numbers-held before) s ≡ o → HostVerdictPromise s before r before
+      go (refused-as x) p = told s before before (Refused f) q (sym (ap verdict-says e) ∙ a .answer-is ∙ ap answer-to (sym as-own)) (rw p)
       go (accepted-with root) p =
-          let t : refused (refusal-of f) ≡ answer rows (accepted-with root) = sym (ap answer-of e) ∙ a .answer-is ∙ ap (answer rows) (sym as-own ∙ p) in
-          let z : _≡_ {A = ℕ} 0 1 = cc in
-          absurd (omega (arith, z))
+          let t : refused (refusal-of f) ≡ answer-to (accepted-with root) = sym (ap verdict-says e) ∙ a .answer-is ∙ ap answer-to (sym as-own ∙ p) in
+          absurd (eqb-false (refusal-of f .number) 0 (no-zero f) (ap (λ (m : MessageAnswer). m .number) t))
 
   -- where it accepted, its table starts with all the payments' numbers
-  record Numbered (p : ℕ) : Type 0 where
-    pub root : Element
-    pub outcome-is : outcome rows (length own) s ≡ accepted-with root
-    pub payments-are : p ≡ length (payments rows root)
-    pub filled-is : filled ≡ over (each (numbers-of rows) (payments rows root)) own
-
   module _ {b p c : ℕ} (e : v ≡ Accepted b p c) where
-    numbered-by : Numbered p
-    unfolding verdict answer answer-of table-after written
-    numbered-by = go (outcome rows (length own) s) refl
-      where
-        go : (o : Outcome) → outcome rows (length own) s ≡ o → Numbered p
-        go (refused-as x) q =
-            let t : accepted b p c ≡ refused x = sym (ap answer-of e) ∙ a .answer-is ∙ ap (answer rows) q in
-            let z : _≡_ {A = ℕ} 0 1 = cc in
-            absurd (omega (arith, z))
-        go (accepted-with root) q =
-            let t : accepted b p c ≡ answer rows (accepted-with root) = sym (ap answer-of e) ∙ a .answer-is ∙ ap (answer rows) q in
-            record { root = root; outcome-is = q; payments-are = cc; filled-is = a .table-is ∙ ap (λ (o : Outcome). table-after rows o own) q }
+    numbered-by : Filled s own filled b p c
+    numbered-by = accepted-fills (subst (λ (w : Verdict). VerdictPromise s own w filled) e a)
 
     pub room : length filled ≡ 1024 → 16 * p ≤ 1024
-    unfolding over
+    unfolding over table-after written
     room l =
         let n = numbered-by in
-        let ns = each (numbers-of rows) (payments rows (n .root)) in
-        omega (arith, l, ap length (n .filled-is), length-append ns (drop (length ns) own), all-numbers-length (payments rows (n .root)), n .payments-are)
+        let ns = each numbers-of (payments (n .root)) in
+        omega (arith, l, ap length (n .table-is), length-append ns (drop (length ns) own), all-numbers-length (payments (n .root)), n .payments-are)
 
-    pub accepted-bytes : {r : OfMessage} {after : List ℕ} → length filled ≡ 1024 → as-returned r ≡ returned (answer-of (Accepted b p c))
-        → (16 * p ≤ length filled → 4 * (16 * p) ≤ length before → after ≡ each four-bytes (take (16 * p) filled) ++ drop (4 * (16 * p)) before) → Answers s before r after
-    unfolding verdict bytes-after over written
+    pub accepted-bytes : {r : OfMessage} {after : List ℕ} → length filled ≡ 1024 → as-answer r ≡ verdict-says (Accepted b p c)
+        → (16 * p ≤ length filled → 4 * (16 * p) ≤ length before → after ≡ each four-bytes (take (16 * p) filled) ++ drop (4 * (16 * p)) before) → HostVerdictPromise s before r after
+    unfolding verdict bytes-after table-after over written
     accepted-bytes {r} {after} l q w =
         let n = numbered-by in
-        let ns = each (numbers-of rows) (payments rows (n .root)) in
+        let ns = each numbers-of (payments (n .root)) in
         let few = room l in
-        let many : length ns ≡ 16 * p = all-numbers-length (payments rows (n .root)) ∙ ap (λ (m : ℕ). 16 * m) (sym (n .payments-are)) in
-        let x : take (16 * p) filled ≡ ns = ap (take (16 * p)) (n .filled-is) ∙ take-at ns (drop (length ns) own) (16 * p) many in
+        let many : length ns ≡ 16 * p = all-numbers-length (payments (n .root)) ∙ ap (λ (m : ℕ). 16 * m) (sym (n .payments-are)) in
+        let x : take (16 * p) filled ≡ ns = ap (take (16 * p)) (n .table-is) ∙ take-at ns (drop (length ns) own) (16 * p) many in
         let y : 4 * (16 * p) ≡ length (each four-bytes ns) = ap (λ (m : ℕ). 4 * m) (sym many) ∙ sym (four-length ns) in
         let o : outcome rows (numbers-held before) s ≡ accepted-with (n .root) = as-own ∙ n .outcome-is in
-        told s before after (Accepted b p c) q (sym (ap answer-of e) ∙ a .answer-is ∙ ap (answer rows) (sym as-own))
+        told s before after (Accepted b p c) q (sym (ap verdict-says e) ∙ a .answer-is ∙ ap answer-to (sym as-own))
         (w (omega (arith, few, l)) (omega (arith, few, h)) ∙ rw (o, x) (ap (λ (m : ℕ). each four-bytes ns ++ drop m before) y))

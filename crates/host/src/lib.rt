@@ -7,12 +7,9 @@ ghost use mathlib.Core.Path.{_≡_};
 ghost use mathlib.Core.List.{_++_};
 ghost use Prim.Native.Nat.{_+_, _*_, _≤_};
 ghost use lib.ListN.{length, take, drop};
-ghost use Rattle.paper.specs.Rows.{rows};
-ghost use Rattle.paper.specs.Regrouping.{regrouping, returned};
 ghost use Rattle.paper.specs.Bytes.{each};
 ghost use Rattle.paper.specs.Host.{four-bytes};
-ghost use Rattle.answers.specs.Numbers.{as-regrouping-returned};
-ghost use Rattle.host.specs.Answers.{Answers};
+ghost use Rattle.host.specs.Promises.{HostVerdictPromise, HostRegroupPromise};
 
 // A number as four bytes at a place of the table, where it has them.
 fn put(table: &mut [u8], at: usize, n: u32)
@@ -47,7 +44,7 @@ fn write(numbers: &[u32], many: usize, table: &mut [u8])
 // The verdict on a message, with the table as bytes.
 #[no_mangle]
 pub extern "C" fn glowenzo_verdict(message: &[u8], table: &mut [u8]) -> OfMessage
-    ensures { λ r. ⌜ Answers (now (message .entry)) (now (table .entry)) r (now (table .exit)) ⌝ }
+    ensures { λ r. ⌜ HostVerdictPromise (now (message .entry)) (now (table .entry)) r (now (table .exit)) ⌝ }
 {
     if table.len() < 4096 {
         return answers::of_message(Verdict::Refused(Fault::TableTooShort));
@@ -74,7 +71,7 @@ pub extern "C" fn glowenzo_verdict(message: &[u8], table: &mut [u8]) -> OfMessag
 // Whether one message regroups another by a list.
 #[no_mangle]
 pub extern "C" fn glowenzo_regroup(first: &[u8], second: &[u8], list: &[u8]) -> OfRegrouping
-    ensures { λ r. ⌜ as-regrouping-returned r ≡ returned (regrouping rows (now (first .entry)) (now (second .entry)) (now (list .entry))) ⌝ }
+    ensures { λ r. ⌜ HostRegroupPromise (now (first .entry)) (now (second .entry)) (now (list .entry)) r ⌝ }
 {
     answers::of_regrouping(regrouping::regroup(first, second, list))
 }

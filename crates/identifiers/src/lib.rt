@@ -3,7 +3,7 @@ ghost use mathlib.Core.Path.{_≡_};
 ghost use mathlib.Core.Bool.{_&&_};
 ghost use lib.ListN.{length, getD};
 ghost use Prim.Native.Nat.{_-_};
-ghost use Rattle.paper.specs.Bytes.{is, every};
+ghost use Rattle.paper.specs.Bytes.{is};
 ghost use Rattle.paper.specs.Values.{two-slashes, id, purpose};
 
 fn last(s: &[u8]) -> u8

@@ -8,7 +8,7 @@ use native.Mathlib.Omega.{arith}
 use lib.ListN.{length, getD, length-append}
 use Rattle.paper.specs.Bytes.{if_then_else_, same}
 use Rattle.paper.specs.Form.{Element}
-use Rattle.paper.specs.Rows.{rows, head-of}
+use Rattle.paper.specs.Rows.{head-of}
 use Rattle.paper.specs.Payments.{text-of, child, blocks}
 use Rattle.paper.specs.Refusals.{Refusal, refuse, unless, _or-else_, among-texts, repeated, ids-refusal}
 use Rattle.paper.specs.Answers.{refusal-found}
@@ -47,7 +47,7 @@ module _ (w : List ℕ) where
   unfolding with-ids
   still-among earlier [] h = h
   still-among earlier (b ∷ bs) h =
-      let o = child rows 10 11 b in
+      let o = child 11 b in
       still-among (with-id earlier o) bs (among-more earlier o ∙ or-true (among-texts w (with-id [] o)) (among-texts w earlier) h)
 
 pub id-absent : (w : List ℕ) {s tree : List ℕ} {o : Option Element} {f : Found} → Finds s tree o f → f ≡ Nothing → false ≡ among-texts w (with-id [] o)
@@ -74,7 +74,7 @@ pub record Unmatched (s tree out w : List ℕ) (bs : List Element) (j k : ℕ) :
 -- what `has_id` answers
 abbrev pub HasId : (s tree : List ℕ) (block id : ℕ) (r : Bool) → Type 0
 HasId s tree block id r =
-    (b t : Element) (m n : ℕ) → Laid s tree b block m → Laid s tree t id n → r ≡ among-texts (text-of t) (with-id [] (child rows 10 11 b))
+    (b t : Element) (m n : ℕ) → Laid s tree b block m → Laid s tree t id n → r ≡ among-texts (text-of t) (with-id [] (child 11 b))
 
 module _ {s tree out : List ℕ} where
   pub unmatched : (w : List ℕ) {bs : List Element} {k : ℕ} → BlocksAt s tree out 0 bs → k ≡ length bs → Unmatched s tree out w bs 0 k
@@ -83,22 +83,22 @@ module _ {s tree out : List ℕ} where
 
   module _ {t : Element} {bs : List Element} {j k id n block : ℕ} {r : Bool} (laid : Laid s tree t id n) (u : Unmatched s tree out (text-of t) bs j k)
       (here : block ≡ getD out j 0) (h : j < k) (has : HasId s tree block id r) where
-    answer : (f : FirstBlock s tree out j (u .rest)) → r ≡ among-texts (text-of t) (with-id [] (child rows 10 11 (f .one)))
+    answer : (f : FirstBlock s tree out j (u .rest)) → r ≡ among-texts (text-of t) (with-id [] (child 11 (f .one)))
     answer f = has (f .one) t (f .one-next) n (subst (λ (i : ℕ). Laid s tree (f .one) i (f .one-next)) (sym here) (f .one-laid)) laid
 
     onward : (f : FirstBlock s tree out j (u .rest))
-        → with-ids [] bs ≡ with-ids (with-id (u .earlier) (child rows 10 11 (f .one))) (f .others)
+        → with-ids [] bs ≡ with-ids (with-id (u .earlier) (child 11 (f .one))) (f .others)
     unfolding with-ids
     onward f = u .ids-are ∙ ap (with-ids (u .earlier)) (f .first-is)
 
-    joined : (f : FirstBlock s tree out j (u .rest)) → among-texts (text-of t) (with-id (u .earlier) (child rows 10 11 (f .one))) ≡ r
+    joined : (f : FirstBlock s tree out j (u .rest)) → among-texts (text-of t) (with-id (u .earlier) (child 11 (f .one))) ≡ r
     joined f =
-        among-more (text-of t) (u .earlier) (child rows 10 11 (f .one)) ∙ rw (← answer f, u .not-among) (or-false r)
+        among-more (text-of t) (u .earlier) (child 11 (f .one)) ∙ rw (← answer f, u .not-among) (or-false r)
 
     pub matched : r ≡ true → true ≡ among-texts (text-of t) (with-ids [] bs)
     matched e =
         let f = first-block (u .rest-at) (u .rest-many) h in
-        sym (ap (among-texts (text-of t)) (onward f) ∙ still-among (text-of t) (with-id (u .earlier) (child rows 10 11 (f .one))) (f .others) (joined f ∙ e))
+        sym (ap (among-texts (text-of t)) (onward f) ∙ still-among (text-of t) (with-id (u .earlier) (child 11 (f .one))) (f .others) (joined f ∙ e))
 
     pub still-unmatched : r ≡ false → Unmatched s tree out (text-of t) bs (j + 1) k
     still-unmatched e =
@@ -107,7 +107,7 @@ module _ {s tree out : List ℕ} where
           rest = f .others;
           rest-at = f .others-at;
           rest-many = one-fewer j (u .rest-many) (f .first-is);
-          earlier = with-id (u .earlier) (child rows 10 11 (f .one));
+          earlier = with-id (u .earlier) (child 11 (f .one));
           ids-are = onward f;
           not-among = joined f ∙ e;
         }
@@ -119,9 +119,9 @@ module _ {s tree out : List ℕ} where
 
 -- one block's id, and the rest
 repeated-is : (earlier : List (List ℕ)) (b : Element) (bs : List Element)
-    → repeated rows earlier (b ∷ bs) ≡ id-refusal earlier b or-else repeated rows (with-id earlier (child rows 10 11 b)) bs
+    → repeated earlier (b ∷ bs) ≡ id-refusal earlier b or-else repeated (with-id earlier (child 11 b)) bs
 unfolding repeated id-refusal unless with-id _or-else_ refuse
-repeated-is earlier b bs = go (child rows 10 11 b)
+repeated-is earlier b bs = go (child 11 b)
   where
     by : (c : Bool) (r : Option Refusal) (x : Refusal) → _≡_ {A = Option Refusal} (if c then some x else r) ((if not c then none else some x) or-else r)
     by true r x = refl
@@ -129,18 +129,18 @@ repeated-is earlier b bs = go (child rows 10 11 b)
 
     go : (o : Option Element) → _≡_ {A = Option Refusal}
         (elim o [
-          | none ↦ repeated rows earlier bs
-          | some id ↦ if among-texts (text-of id) earlier then refuse 11 11 (head-of id .at) else repeated rows (text-of id ∷ earlier) bs
+          | none ↦ refuse 11 11 0
+          | some id ↦ if among-texts (text-of id) earlier then refuse 11 11 (head-of id .at) else repeated (text-of id ∷ earlier) bs
         ])
-        (unless (λ w. not (among-texts w earlier)) 11 11 o or-else repeated rows (with-id earlier o) bs)
+        (unless (λ w. not (among-texts w earlier)) 11 11 o or-else repeated (with-id earlier o) bs)
     go none = refl
-    go (some id) = by (among-texts (text-of id) earlier) (repeated rows (text-of id ∷ earlier) bs) _
+    go (some id) = by (among-texts (text-of id) earlier) (repeated (text-of id ∷ earlier) bs) _
 
 with-ids-last : (earlier : List (List ℕ)) (bs : List Element) (b : Element)
-    → with-ids earlier (bs ++ b ∷ []) ≡ with-id (with-ids earlier bs) (child rows 10 11 b)
+    → with-ids earlier (bs ++ b ∷ []) ≡ with-id (with-ids earlier bs) (child 11 b)
 unfolding with-ids
 with-ids-last earlier [] b = refl
-with-ids-last earlier (x ∷ bs) b = with-ids-last (with-id earlier (child rows 10 11 x)) bs b
+with-ids-last earlier (x ∷ bs) b = with-ids-last (with-id earlier (child 11 x)) bs b
 
 blocks-and : {s tree out : List ℕ} {k n next : ℕ} {b : Element} {bs : List Element} → BlocksAt s tree out k bs → n ≡ k + length bs
     → Laid s tree b (getD out n 0) next → BlocksAt s tree out k (bs ++ b ∷ [])
@@ -156,7 +156,7 @@ pub record BeforeId (s tree out : List ℕ) (root : Element) (k n : ℕ) : Type 
   rest : List Element
   rest-at : BlocksAt s tree out k rest
   rest-many : n ≡ k + length rest
-  refusal-is : ids-refusal rows root ≡ repeated rows (with-ids [] before) rest
+  refusal-is : ids-refusal root ≡ repeated (with-ids [] before) rest
 
 -- what `id_at` answers at block k
 abbrev pub IdAt : (s tree out : List ℕ) (k : ℕ) (f : Finding) → Type 0
@@ -165,30 +165,30 @@ IdAt s tree out k f =
     → refusal-found f ≡ id-refusal (with-ids [] bs) b
 
 module _ {s tree out : List ℕ} {root : Element} where
-  pub before-ids : {n : ℕ} → Ordered s tree out root → n ≡ length (blocks rows root) → BeforeId s tree out root 0 n
+  pub before-ids : {n : ℕ} → Ordered s tree out root → n ≡ length (blocks root) → BeforeId s tree out root 0 n
   unfolding ids-refusal with-ids
   before-ids o e =
-      record { before = []; before-at = no-blocks; before-many = refl; rest = blocks rows root; rest-at = o .blocks-at; rest-many = omega arith; refusal-is = refl }
+      record { before = []; before-at = no-blocks; before-many = refl; rest = blocks root; rest-at = o .blocks-at; rest-many = omega arith; refusal-is = refl }
 
   module _ {k n : ℕ} (w : BeforeId s tree out root k n) where
-    pub no-id-left : n ≤ k → refusal-found finding.Nothing ≡ ids-refusal rows root
+    pub no-id-left : n ≤ k → refusal-found finding.Nothing ≡ ids-refusal root
     unfolding refusal-found repeated
-    no-id-left h = sym (w .refusal-is ∙ ap (repeated rows (with-ids [] (w .before))) (no-block-left (w .rest-at) (w .rest-many) h))
+    no-id-left h = sym (w .refusal-is ∙ ap (repeated (with-ids [] (w .before))) (no-block-left (w .rest-at) (w .rest-many) h))
 
     module _ (f : Finding) (h : k < n) (at : IdAt s tree out k f) where
       here : (x : FirstBlock s tree out k (w .rest)) → refusal-found f ≡ id-refusal (with-ids [] (w .before)) (x .one)
       here x = at (w .before) (x .one) (x .one-next) (w .before-at) (w .before-many) (x .one-laid)
 
-      split : (x : FirstBlock s tree out k (w .rest)) → ids-refusal rows root ≡
+      split : (x : FirstBlock s tree out k (w .rest)) → ids-refusal root ≡
           id-refusal (with-ids [] (w .before)) (x .one) or-else
-          repeated rows (with-id (with-ids [] (w .before)) (child rows 10 11 (x .one))) (x .others)
-      split x = w .refusal-is ∙ ap (repeated rows (with-ids [] (w .before))) (x .first-is) ∙ repeated-is (with-ids [] (w .before)) (x .one) (x .others)
+          repeated (with-id (with-ids [] (w .before)) (child 11 (x .one))) (x .others)
+      split x = w .refusal-is ∙ ap (repeated (with-ids [] (w .before))) (x .first-is) ∙ repeated-is (with-ids [] (w .before)) (x .one) (x .others)
 
-      pub id-refused : {fault : Fault} → f ≡ finding.Refused fault → refusal-found f ≡ ids-refusal rows root
+      pub id-refused : {fault : Fault} → f ≡ finding.Refused fault → refusal-found f ≡ ids-refusal root
       id-refused e =
           let x = first-block (w .rest-at) (w .rest-many) h in
           found-first (id-refusal (with-ids [] (w .before)) (x .one))
-          (repeated rows (with-id (with-ids [] (w .before)) (child rows 10 11 (x .one))) (x .others)) f (here x) e ∙ sym (split x)
+          (repeated (with-id (with-ids [] (w .before)) (child 11 (x .one))) (x .others)) f (here x) e ∙ sym (split x)
 
       pub id-passed : f ≡ finding.Nothing → BeforeId s tree out root (k + 1) n
       id-passed e =
@@ -202,6 +202,6 @@ module _ {s tree out : List ℕ} {root : Element} where
             rest-at = x .others-at;
             rest-many = one-fewer k (w .rest-many) (x .first-is);
             refusal-is =
-                split x ∙ later (repeated rows (with-id (with-ids [] (w .before)) (child rows 10 11 (x .one))) (x .others)) (here x) e ∙
-                ap (λ (ids : List (List ℕ)). repeated rows ids (x .others)) (sym (with-ids-last [] (w .before) (x .one)));
+                split x ∙ later (repeated (with-id (with-ids [] (w .before)) (child 11 (x .one))) (x .others)) (here x) e ∙
+                ap (λ (ids : List (List ℕ)). repeated ids (x .others)) (sym (with-ids-last [] (w .before) (x .one)));
           }

@@ -5,11 +5,9 @@ use routes::Found;
 ghost use mathlib.Core.Path.{_≡_};
 ghost use mathlib.Core.List.{List, []};
 ghost use mathlib.Core.Bool.{true};
-ghost use Prim.Native.Nat.{ℕ, _+_, _<_};
+ghost use Prim.Native.Nat.{ℕ, _<_};
 ghost use lib.ListN.{length, getD};
 ghost use Rattle.paper.specs.Form.{Element};
-ghost use Rattle.paper.specs.Rows.{rows};
-ghost use Rattle.paper.specs.Values.{number};
 ghost use Rattle.paper.specs.Payments.{text-of, child, blocks as all-blocks};
 ghost use Rattle.paper.specs.Refusals.{among-texts, ids-refusal};
 ghost use Rattle.paper.specs.Answers.{refusal-found};
@@ -19,7 +17,7 @@ ghost use Rattle.ids.specs.Ids.{with-id, with-ids, id-refusal};
 
 // The block at element `block` has the id that element `id` holds.
 fn has_id(s: &[u8], tree: &[u16], block: usize, id: usize) -> bool
-    ensures { λ r. ⌜ ((b t : Element) (m n : ℕ) → Laid (now (s .entry)) (now (tree .entry)) b block m → Laid (now (s .entry)) (now (tree .entry)) t id n → r ≡ among-texts (text-of t) (with-id [] (child rows 10 11 b))) ⌝ }
+    ensures { λ r. ⌜ ((b t : Element) (m n : ℕ) → Laid (now (s .entry)) (now (tree .entry)) b block m → Laid (now (s .entry)) (now (tree .entry)) t id n → r ≡ among-texts (text-of t) (with-id [] (child 11 b))) ⌝ }
 {
     let found = routes::child(s, tree, block, b"PmtInfId");
     let Found::At(i) = found else {
@@ -48,7 +46,7 @@ fn id_at(s: &[u8], tree: &[u16], out: &[u16], k: usize) -> Finding
 {
     let found = routes::child(s, tree, tree::number(out, k), b"PmtInfId");
     let Found::At(id) = found else {
-        return Finding::Nothing;
+        return Finding::Refused(Fault::BlockIdRepeated { offset: 0 });
     };
     if among_earlier(s, tree, out, k, id) {
         return Finding::Refused(Fault::BlockIdRepeated {
@@ -60,7 +58,7 @@ fn id_at(s: &[u8], tree: &[u16], out: &[u16], k: usize) -> Finding
 
 // 11: a block id equal, byte for byte, to an earlier block's.
 pub fn ids(s: &[u8], tree: &[u16], out: &[u16], blocks: usize) -> Finding
-    ensures { λ r. ⌜ ((root : Element) → Ordered (now (s .entry)) (now (tree .entry)) (now (out .entry)) root → blocks ≡ length (all-blocks rows root) → refusal-found r ≡ ids-refusal rows root) ⌝ }
+    ensures { λ r. ⌜ ((root : Element) → Ordered (now (s .entry)) (now (tree .entry)) (now (out .entry)) root → blocks ≡ length (all-blocks root) → refusal-found r ≡ ids-refusal root) ⌝ }
 {
     let mut k = 0;
     while k < blocks {

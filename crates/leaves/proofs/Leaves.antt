@@ -7,7 +7,7 @@ use mathlib.Core.Path.{_≡_, refl, sym, ap, _∙_, subst}
 use native.Mathlib.Omega.{arith}
 use lib.ListN.{length, take, drop}
 use Rattle.paper.specs.Form.{Element}
-use Rattle.paper.specs.Rows.{rows, row-of}
+use Rattle.paper.specs.Rows.{name}
 use Rattle.paper.specs.Payments.{text-of, child, follow}
 use Rattle.paper.specs.Refusals.{Refusal, refuse, unless, _or-else_}
 use Rattle.paper.specs.Answers.{refusal-found, refusal-of, numbered}
@@ -49,20 +49,20 @@ pub stands-at : {s tree : List ℕ} {t : Element} {i j next : ℕ} → i ≡ j �
 stands-at {s} {tree} {t} {next = next} e l = subst (λ (k : ℕ). Laid s tree t k next) (sym e) l
 
 -- what is found by names, as what stands at the rows
-module _ {s tree : List ℕ} (t : Element) {f : Found} (parent : ℕ) where
-  pub row-found : (k : ℕ) {name : List ℕ} → row-of rows parent k .name ≡ name → Finds s tree (child-named name t) f → Finds s tree (child rows parent k t) f
-  row-found k e h = subst (λ (o : Option Element). Finds s tree o f) (sym (child-is rows parent k t ∙ ap (λ (n : List ℕ). child-named n t) e)) h
+module _ {s tree : List ℕ} (t : Element) {f : Found} where
+  pub row-found : (k : ℕ) {w : List ℕ} → name k ≡ w → Finds s tree (child-named w t) f → Finds s tree (child k t) f
+  row-found k e h = subst (λ (o : Option Element). Finds s tree o f) (sym (child-is k t ∙ ap (λ (n : List ℕ). child-named n t) e)) h
 
-  pub route-found : (route : List ℕ) {names : List (List ℕ)} → names-of rows parent route ≡ names → Finds s tree (along names (some t)) f
-      → Finds s tree (follow rows parent route t) f
+  pub route-found : (route : List ℕ) {names : List (List ℕ)} → names-of route ≡ names → Finds s tree (along names (some t)) f
+      → Finds s tree (follow route t) f
   route-found route e h =
-      subst (λ (o : Option Element). Finds s tree o f) (sym (follow-is rows parent route t ∙ ap (λ (ns : List (List ℕ)). along ns (some t)) e)) h
+      subst (λ (o : Option Element). Finds s tree o f) (sym (follow-is route t ∙ ap (λ (ns : List (List ℕ)). along ns (some t)) e)) h
 
 -- A refusal at a leaf that was found: it is absent; its text is right; it is not.
 module _ (right : List ℕ → Bool) (number row : ℕ) {s tree : List ℕ} {o : Option Element} {f : Found} (found : Finds s tree o f) where
-  pub leaf-absent : f ≡ Nothing → refusal-found finding.Nothing ≡ unless right number row o
-  unfolding refusal-found unless
-  leaf-absent e = sym (rw (found-none found e))
+  pub leaf-absent : (fault : Fault) → f ≡ Nothing → refusal-of fault ≡ numbered number row 0 → refusal-found (finding.Refused fault) ≡ unless right number row o
+  unfolding refusal-found unless refuse numbered
+  leaf-absent fault e d = sym (rw (found-none found e) (sym (ap some d)))
 
   pub leaf-right : {i : ℕ} → f ≡ At i → ((t : Element) (next : ℕ) → Laid s tree t i next → o ≡ some t → right (text-of t) ≡ true)
       → refusal-found finding.Nothing ≡ unless right number row o

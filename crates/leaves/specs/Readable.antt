@@ -4,7 +4,6 @@ use mathlib.Core.Option.{Option, some}
 use mathlib.Core.Bool.{true}
 use mathlib.Core.Path.{_≡_}
 use Rattle.paper.specs.Form.{Element}
-use Rattle.paper.specs.Rows.{rows}
 use Rattle.paper.specs.Values.{digits, money}
 use Rattle.paper.specs.Payments.{Payment, text-of, child, follow, blocks, of-header, payments}
 use Rattle.paper.specs.Accepted.{All}
@@ -16,14 +15,14 @@ abbrev pub ReadMoney : Option Element → Type 0
 ReadMoney o = (t : Element) → o ≡ some t → money (text-of t) ≡ true
 
 pub record ReadBlock (b : Element) : Type 0 where
-  pub count : ReadCount (child rows 10 14 b)
-  pub sum : ReadMoney (child rows 10 15 b)
+  pub count : ReadCount (child 14 b)
+  pub sum : ReadMoney (child 15 b)
 
 pub record ReadPayment (p : Payment) : Type 0 where
-  pub amount : ReadMoney (follow rows 37 (41 ∷ 42 ∷ []) (p .own))
+  pub amount : ReadMoney (follow (41 ∷ 42 ∷ []) (p .own))
 
 pub record Readable (root : Element) : Type 0 where
-  pub header-count : ReadCount (of-header rows 6 root)
-  pub header-sum : ReadMoney (of-header rows 7 root)
-  pub in-blocks : All ReadBlock (blocks rows root)
-  pub in-payments : All ReadPayment (payments rows root)
+  pub header-count : ReadCount (of-header 6 root)
+  pub header-sum : ReadMoney (of-header 7 root)
+  pub in-blocks : All ReadBlock (blocks root)
+  pub in-payments : All ReadPayment (payments root)

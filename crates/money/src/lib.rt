@@ -5,7 +5,7 @@ ghost use Prim.Native.Nat.{_<_, _*_};
 ghost use lib.ListN.{length, take};
 ghost use mathlib.Core.List.{_++_};
 ghost use Rattle.paper.specs.Bytes.{bytes};
-ghost use Rattle.paper.specs.Values.{number, digits, before-point, money, amount};
+ghost use Rattle.paper.specs.Values.{number, before-point, money, amount};
 ghost use Rattle.numbers.specs.Readings.{in-cents};
 
 // Where the point stands; the length where there is none.

@@ -8,10 +8,9 @@ use mathlib.Core.Bool.{Bool, true, false, _||_}
 use mathlib.Core.Path.{_≡_, refl, sym, ap, _∙_, subst}
 use lib.ListN.{length, getD, drop, set, replicate, length-map, getD-replicate, drop-of-length-le}
 use lib.Seq.{drop-cons, getD-set-same, getD-set-other}
-use lib.Dec.{eqb, ltb}
+use lib.Dec.{eqb}
 use borrow.Author.Tests.{eq-eqb, ne-eqb, eqb-true, eqb-false, lt-ltb, le-ltb}
 use Rattle.paper.specs.Form.{Element}
-use Rattle.paper.specs.Rows.{rows}
 use Rattle.paper.specs.Values.{among}
 use Rattle.paper.specs.Payments.{Payment, payments}
 use Rattle.paper.specs.Accepted.{All, all-none, all-more}
@@ -42,25 +41,25 @@ pub record There (s tree order : List ℕ) (k : ℕ) (v : List Value) : Type 0 w
   pub it : Payment
   pub at : PaymentAt s tree order k it
   pub amount : ReadMoney (amount-in it)
-  pub values : v ≡ values-of rows it
+  pub values : v ≡ values-of it
 
 there : {s tree order : List ℕ} (first : ℕ) (ps : List Payment) (k : ℕ) → PaymentsAt s tree order first ps → All (λ p. ReadMoney (amount-in p)) ps
-    → k < length ps → There s tree order (first + k) (getD (map (values-of rows) ps) k [])
+    → k < length ps → There s tree order (first + k) (getD (map values-of ps) k [])
 there first [] k no-payments all-none h = absurd (omega arith)
 there {s} {tree} {order} first (p ∷ ps) zero (more-payments a b) (all-more m n) h =
     record { it = p; at = rw (add-zero first) a; amount = m; values = refl }
 there {s} {tree} {order} first (p ∷ ps) (suc k) (more-payments a b) (all-more m n) h =
     let e : first + 1 + k ≡ first + suc k = omega arith in
-    subst (λ (i : ℕ). There s tree order i (getD (map (values-of rows) ps) k [])) e (there (first + 1) ps k b n (omega arith))
+    subst (λ (i : ℕ). There s tree order i (getD (map values-of ps) k [])) e (there (first + 1) ps k b n (omega arith))
 
 module _ {s tree order : List ℕ} {n : ℕ} {root : Element} (o : InOrder s tree order n root) where
-  pub how-long : length (all-values rows root) ≡ n
+  pub how-long : length (all-values root) ≡ n
   unfolding all-values
-  how-long = length-map (payments rows root) (values-of rows) ∙ o .number-is
+  how-long = length-map (payments root) (values-of) ∙ o .number-is
 
-  pub payment-there : (k : ℕ) → k < n → There s tree order k (getD (all-values rows root) k [])
+  pub payment-there : (k : ℕ) → k < n → There s tree order k (getD (all-values root) k [])
   unfolding all-values
-  payment-there k h = subst (λ (i : ℕ). There s tree order i (getD (map (values-of rows) (payments rows root)) k [])) (zero-add k) (there 0 (payments rows root) k (o .stand) (o .amounts) (omega (arith, o .number-is)))
+  payment-there k h = subst (λ (i : ℕ). There s tree order i (getD (map values-of (payments root)) k [])) (zero-add k) (there 0 (payments root) k (o .stand) (o .amounts) (omega (arith, o .number-is)))
     where
       zero-add : (k : ℕ) → 0 + k ≡ k
       zero-add k = omega arith
@@ -85,10 +84,10 @@ module _ (first : List (List Value)) (k : ℕ) (named ks : List ℕ) (second : L
   unfolding pairing
   pair-agrees b e d = rw (drop-cons ks k 0 h, drop-cons second k [] l, lt-ltb (getD ks k 0) (length first) b, e, d)
 
-no-pair : (first : List (List Value)) (k : ℕ) (named ks : List ℕ) (second : List (List Value)) → length ks ≤ k
+no-pair : (first : List (List Value)) (k : ℕ) (named ks : List ℕ) (second : List (List Value)) → length ks ≤ k → length second ≤ k
     → pairing first k named (drop k ks) (drop k second) ≡ answered 0 0 0
 unfolding pairing
-no-pair first k named ks second h = rw (drop-of-length-le ks h)
+no-pair first k named ks second h l = rw (drop-of-length-le ks h, drop-of-length-le second l)
 
 -- what is marked after one mark more
 mark-more : (named marks : List ℕ) (o : ℕ) → ((x : ℕ) → x < 64 → among x named ≡ eqb (getD marks x 0) 1) → o < length marks
@@ -122,54 +121,54 @@ at-start first second ks =
 abbrev pub Compares : (s1 tree1 order1 : List ℕ) (o : ℕ) (s2 tree2 order2 : List ℕ) (k : ℕ) → Field → Type 0
 Compares s1 tree1 order1 o s2 tree2 order2 k r =
     o < 64 → k < 64 → (p q : Payment) → PaymentAt s1 tree1 order1 o p → ReadMoney (amount-in p) → PaymentAt s2 tree2 order2 k q → ReadMoney (amount-in q)
-    → lowest r ≡ differ-from 1 (values-of rows p) (values-of rows q)
+    → lowest r ≡ differ-from 1 (values-of p) (values-of q)
 
 module _ {s1 tree1 order1 s2 tree2 order2 : List ℕ} {n : ℕ} {root1 root2 : Element} (ks : List ℕ) {marks : List ℕ} {k : ℕ}
     (a : InOrder s1 tree1 order1 n root1) (b : InOrder s2 tree2 order2 n root2) (l : length ks ≡ n)
-    (far : SoFar (all-values rows root1) (all-values rows root2) ks marks k) where
-  pub at-end : n ≤ k → answered 0 0 0 ≡ pairing (all-values rows root1) 0 [] ks (all-values rows root2)
-  at-end h = sym (far .from-here ∙ no-pair (all-values rows root1) k (far .named) ks (all-values rows root2) (omega arith))
+    (far : SoFar (all-values root1) (all-values root2) ks marks k) where
+  pub at-end : n ≤ k → answered 0 0 0 ≡ pairing (all-values root1) 0 [] ks (all-values root2)
+  at-end h = sym (far .from-here ∙ no-pair (all-values root1) k (far .named) ks (all-values root2) (omega arith) (omega (arith, how-long b)))
 
   module _ {o : ℕ} (h : k < n) (e : o ≡ getD ks k 0) where
     in-list : k < length ks
     in-list = omega arith
 
-    in-second : k < length (all-values rows root2)
+    in-second : k < length (all-values root2)
     in-second = omega (arith, how-long b)
 
-    pub answers-18 : n ≤ o → answered 18 k 0 ≡ pairing (all-values rows root1) 0 [] ks (all-values rows root2)
+    pub answers-18 : n ≤ o → answered 18 k 0 ≡ pairing (all-values root1) 0 [] ks (all-values root2)
     answers-18 g =
-        sym (far .from-here ∙ too-large (all-values rows root1) k (far .named) ks (all-values rows root2) in-list in-second (omega (arith, how-long a)))
+        sym (far .from-here ∙ too-large (all-values root1) k (far .named) ks (all-values root2) in-list in-second (omega (arith, how-long a)))
 
     module _ (g : o < n) where
-      in-first : getD ks k 0 < length (all-values rows root1)
+      in-first : getD ks k 0 < length (all-values root1)
       in-first = omega (arith, how-long a)
 
-      pub answers-19 : getD marks o 0 ≡ 1 → answered 19 k 0 ≡ pairing (all-values rows root1) 0 [] ks (all-values rows root2)
+      pub answers-19 : getD marks o 0 ≡ 1 → answered 19 k 0 ≡ pairing (all-values root1) 0 [] ks (all-values root2)
       answers-19 m =
           let x : among (getD ks k 0) (far .named) ≡ true =
           ap (λ (y : ℕ). among y (far .named)) (sym e) ∙ far .marked o (omega (arith, a .few)) ∙ eq-eqb (getD marks o 0) 1 m in
-          sym (far .from-here ∙ named-before (all-values rows root1) k (far .named) ks (all-values rows root2) in-list in-second in-first x)
+          sym (far .from-here ∙ named-before (all-values root1) k (far .named) ks (all-values root2) in-list in-second in-first x)
 
       module _ (r : Field) (c : Compares s1 tree1 order1 o s2 tree2 order2 k r) (m : getD marks o 0 ≡ 1 → ⊥) where
         not-named : among (getD ks k 0) (far .named) ≡ false
         not-named = ap (λ (y : ℕ). among y (far .named)) (sym e) ∙ far .marked o (omega (arith, a .few)) ∙ ne-eqb (getD marks o 0) 1 m
 
-        compared : differ-from 1 (getD (all-values rows root1) (getD ks k 0) []) (getD (all-values rows root2) k []) ≡ lowest r
+        compared : differ-from 1 (getD (all-values root1) (getD ks k 0) []) (getD (all-values root2) k []) ≡ lowest r
         compared =
             let t = payment-there a o g in
             let u = payment-there b k h in
-            ap (λ (y : ℕ). differ-from 1 (getD (all-values rows root1) y []) (getD (all-values rows root2) k [])) (sym e)
+            ap (λ (y : ℕ). differ-from 1 (getD (all-values root1) y []) (getD (all-values root2) k [])) (sym e)
             ∙ rw (t .values, u .values)
             (sym (c (omega (arith, a .few)) (omega (arith, a .few)) (t .it) (u .it) (t .at) (t .amount) (u .at) (u .amount)))
 
-        pub answers-20 : {field : ℕ} → r ≡ Differs field → answered 20 k field ≡ pairing (all-values rows root1) 0 [] ks (all-values rows root2)
+        pub answers-20 : {field : ℕ} → r ≡ Differs field → answered 20 k field ≡ pairing (all-values root1) 0 [] ks (all-values root2)
         unfolding lowest
         answers-20 d =
             sym (far .from-here
-            ∙ fields-differ (all-values rows root1) k (far .named) ks (all-values rows root2) in-list in-second in-first not-named (compared ∙ ap lowest d))
+            ∙ fields-differ (all-values root1) k (far .named) ks (all-values root2) in-list in-second in-first not-named (compared ∙ ap lowest d))
 
-        pub goes-on : r ≡ Same → length marks ≡ 64 → SoFar (all-values rows root1) (all-values rows root2) ks (set marks o 1) (k + 1)
+        pub goes-on : r ≡ Same → length marks ≡ 64 → SoFar (all-values root1) (all-values root2) ks (set marks o 1) (k + 1)
         unfolding lowest
         goes-on d w =
             record {
@@ -177,11 +176,11 @@ module _ {s1 tree1 order1 s2 tree2 order2 : List ℕ} {n : ℕ} {root1 root2 : E
               marked = rw (← e) (mark-more (far .named) marks o (far .marked) (omega (arith, a .few)));
               from-here =
                   far .from-here
-                  ∙ pair-agrees (all-values rows root1) k (far .named) ks (all-values rows root2) in-list in-second in-first not-named (compared ∙ ap lowest d)
+                  ∙ pair-agrees (all-values root1) k (far .named) ks (all-values root2) in-list in-second in-first not-named (compared ∙ ap lowest d)
                   ∙ moved (omega arith);
             }
           where
             moved : {i j : ℕ} → i ≡ j
-                → pairing (all-values rows root1) i (getD ks k 0 ∷ far .named) (drop i ks) (drop i (all-values rows root2))
-                ≡ pairing (all-values rows root1) j (getD ks k 0 ∷ far .named) (drop j ks) (drop j (all-values rows root2))
+                → pairing (all-values root1) i (getD ks k 0 ∷ far .named) (drop i ks) (drop i (all-values root2))
+                ≡ pairing (all-values root1) j (getD ks k 0 ∷ far .named) (drop j ks) (drop j (all-values root2))
             moved p = rw p

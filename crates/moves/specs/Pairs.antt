@@ -4,10 +4,9 @@ use mathlib.Core.List.{List}
 use mathlib.Core.Path.{_≡_}
 use lib.ListN.{length}
 use Rattle.paper.specs.Form.{Element}
-use Rattle.paper.specs.Rows.{rows}
 use Rattle.paper.specs.Payments.{payments}
 use Rattle.paper.specs.Accepted.{All}
-use Rattle.paper.specs.Regrouping.{Answer, answered}
+use Rattle.paper.specs.Regrouping.{RegroupingAnswer, answered}
 use Rattle.order.specs.Ordered.{PaymentsAt}
 use Rattle.leaves.specs.Readable.{ReadMoney}
 use Rattle.alike.specs.Alike.{amount-in}
@@ -16,14 +15,14 @@ use Rattle.moves.specs.declared.Paired.the-variants.{Accepted, OrdinalTo
 
 -- So many payments stand in this order, no more than a message may have, and their amounts are money.
 pub record InOrder (s tree order : List ℕ) (n : ℕ) (root : Element) : Type 0 where
-  pub number-is : length (payments rows root) ≡ n
+  pub number-is : length (payments root) ≡ n
   pub few : n ≤ 64
-  pub stand : PaymentsAt s tree order 0 (payments rows root)
-  pub amounts : All (λ p. ReadMoney (amount-in p)) (payments rows root)
+  pub stand : PaymentsAt s tree order 0 (payments root)
+  pub amounts : All (λ p. ReadMoney (amount-in p)) (payments root)
 
--- the paper's numbers
-unfoldable pub answer-of : Paired → Answer
-answer-of Accepted = answered 0 0 0
-answer-of (OrdinalTooLarge k) = answered 18 k 0
-answer-of (NamedBefore k) = answered 19 k 0
-answer-of (FieldsDiffer k field) = answered 20 k field
+-- the answer that they come to
+unfoldable pub pairs-say : Paired → RegroupingAnswer
+pairs-say Accepted = answered 0 0 0
+pairs-say (OrdinalTooLarge k) = answered 18 k 0
+pairs-say (NamedBefore k) = answered 19 k 0
+pairs-say (FieldsDiffer k field) = answered 20 k field

@@ -6,7 +6,6 @@ ghost use mathlib.Core.Option.{some};
 ghost use Prim.Native.Nat.{ℕ, _+_, _*_, _<_};
 ghost use lib.ListN.{length};
 ghost use Rattle.paper.specs.Form.{Element};
-ghost use Rattle.paper.specs.Rows.{rows};
 ghost use Rattle.paper.specs.Payments.{Payment};
 ghost use Rattle.paper.specs.Fields.{values-of, differ-from};
 ghost use Rattle.paper.specs.Regrouping.{ordinals-of, pairing, all-values};
@@ -14,7 +13,7 @@ ghost use Rattle.order.specs.Ordered.{PaymentAt};
 ghost use Rattle.leaves.specs.Readable.{ReadMoney};
 ghost use Rattle.alike.specs.Alike.{amount-in};
 ghost use Rattle.compared.specs.Compared.{lowest};
-ghost use Rattle.moves.specs.Pairs.{InOrder, answer-of};
+ghost use Rattle.moves.specs.Pairs.{InOrder, pairs-say};
 
 // What is said of the pairs of payments that a list names.
 pub enum Paired {
@@ -35,7 +34,7 @@ fn differing_pair(
     order2: &[u16],
     k: usize,
 ) -> Field
-    ensures { λ r. ⌜ (o < 64 → k < 64 → (p q : Payment) → PaymentAt (now (s1 .entry)) (now (tree1 .entry)) (now (order1 .entry)) o p → ReadMoney (amount-in p) → PaymentAt (now (s2 .entry)) (now (tree2 .entry)) (now (order2 .entry)) k q → ReadMoney (amount-in q) → lowest r ≡ differ-from 1 (values-of rows p) (values-of rows q)) ⌝ }
+    ensures { λ r. ⌜ (o < 64 → k < 64 → (p q : Payment) → PaymentAt (now (s1 .entry)) (now (tree1 .entry)) (now (order1 .entry)) o p → ReadMoney (amount-in p) → PaymentAt (now (s2 .entry)) (now (tree2 .entry)) (now (order2 .entry)) k q → ReadMoney (amount-in q) → lowest r ≡ differ-from 1 (values-of p) (values-of q)) ⌝ }
 {
     if 64 <= o {
         return Field::Same;
@@ -61,7 +60,7 @@ pub fn pairing(
     list: &[u8],
     payments: usize,
 ) -> Paired
-    ensures { λ r. ⌜ ((root1 root2 : Element) (ks : List ℕ) → InOrder (now (s1 .entry)) (now (tree1 .entry)) (now (order1 .entry)) payments root1 → InOrder (now (s2 .entry)) (now (tree2 .entry)) (now (order2 .entry)) payments root2 → ordinals-of (now (list .entry)) ≡ some ks → length ks ≡ payments → answer-of r ≡ pairing (all-values rows root1) 0 [] ks (all-values rows root2)) ⌝ }
+    ensures { λ r. ⌜ ((root1 root2 : Element) (ks : List ℕ) → InOrder (now (s1 .entry)) (now (tree1 .entry)) (now (order1 .entry)) payments root1 → InOrder (now (s2 .entry)) (now (tree2 .entry)) (now (order2 .entry)) payments root2 → ordinals-of (now (list .entry)) ≡ some ks → length ks ≡ payments → pairs-say r ≡ pairing (all-values root1) 0 [] ks (all-values root2)) ⌝ }
 {
     let mut marks = [0u8; 64];
     let mut k = 0;

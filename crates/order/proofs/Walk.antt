@@ -11,7 +11,7 @@ use lib.Seq.{getD-set-same, getD-set-other}
 use borrow.Author.Tests.{ne-eqb}
 use Rattle.paper.specs.Bytes.{bytes}
 use Rattle.paper.specs.Form.{Element, Elements}
-use Rattle.paper.specs.Rows.{rows, row-of, leaf, group, group-under, head-of}
+use Rattle.paper.specs.Rows.{rows, leaf, group, group-under, head-of, name-in, name}
 use Rattle.paper.specs.Payments.{Payment, listed, children, all-of, blocks, payments-of, payments-from, payments}
 use Rattle.paper.specs.Refusals.{Refusal, refuse, _or-else_, sixty-fifth, too-many, limits-refusal}
 use Rattle.paper.proofs.Laws.{some-not-none}
@@ -32,16 +32,16 @@ abbrev pub payment-name : List ℕ
 payment-name = bytes "CdtTrfTxInf"
 
 -- the rows' names
-pub initiation-row : row-of rows 1 2 .name ≡ bytes "CstmrCdtTrfInitn"
-unfolding row-of rows leaf group group-under bytes
+pub initiation-row : name 2 ≡ bytes "CstmrCdtTrfInitn"
+unfolding name name-in rows leaf group group-under bytes
 initiation-row = refl
 
-pub block-row : row-of rows 2 10 .name ≡ block-name
-unfolding row-of rows leaf group group-under bytes
+pub block-row : name 10 ≡ block-name
+unfolding name name-in rows leaf group group-under bytes
 block-row = refl
 
-pub payment-row : row-of rows 10 37 .name ≡ payment-name
-unfolding row-of rows leaf group group-under bytes
+pub payment-row : name 37 ≡ payment-name
+unfolding name name-in rows leaf group group-under bytes
 payment-row = refl
 
 -- the payments of some elements of a block
@@ -62,27 +62,27 @@ paid-none number b ps = refl
 abbrev pub payments-in : Element → List Element
 payments-in b = with-name payment-name (children b)
 
-pub payments-in-are : (b : Element) → all-of rows 10 37 b ≡ payments-in b
-payments-in-are b = all-is rows 10 37 b ∙ ap (λ (name : List ℕ). with-name name (children b)) payment-row
+pub payments-in-are : (b : Element) → all-of 37 b ≡ payments-in b
+payments-in-are b = all-is 37 b ∙ ap (λ (name : List ℕ). with-name name (children b)) payment-row
 
-payments-of-are : (number : ℕ) (b : Element) → payments-of rows number b ≡ paid number b (payments-in b)
+payments-of-are : (number : ℕ) (b : Element) → payments-of number b ≡ paid number b (payments-in b)
 unfolding payments-of paid
-payments-of-are number b = go (all-of rows 10 37 b) ∙ ap (paid number b) (payments-in-are b)
+payments-of-are number b = go (all-of 37 b) ∙ ap (paid number b) (payments-in-are b)
   where
     go : (ts : List Element) → map (λ t. record { own = t; block = b; block-number = number }) ts ≡ paid number b ts
     go [] = refl
     go (t ∷ ts) = rw (go ts)
 
 -- the blocks, by the element that holds them
-blocks-are : (root u : Element) → child-named (bytes "CstmrCdtTrfInitn") root ≡ some u → blocks rows root ≡ with-name block-name (children u)
+blocks-are : (root u : Element) → child-named (bytes "CstmrCdtTrfInitn") root ≡ some u → blocks root ≡ with-name block-name (children u)
 unfolding blocks
 blocks-are root u e =
-    rw (child-is rows 1 2 root ∙ ap (λ (name : List ℕ). child-named name root) initiation-row ∙ e, blocks)
-    (all-is rows 2 10 u ∙ ap (λ (name : List ℕ). with-name name (children u)) block-row)
+    rw (child-is 2 root ∙ ap (λ (name : List ℕ). child-named name root) initiation-row ∙ e, blocks)
+    (all-is 10 u ∙ ap (λ (name : List ℕ). with-name name (children u)) block-row)
 
-no-blocks-are : (root : Element) → child-named (bytes "CstmrCdtTrfInitn") root ≡ none → blocks rows root ≡ []
+no-blocks-are : (root : Element) → child-named (bytes "CstmrCdtTrfInitn") root ≡ none → blocks root ≡ []
 unfolding blocks
-no-blocks-are root e = rw (child-is rows 1 2 root ∙ ap (λ (name : List ℕ). child-named name root) initiation-row ∙ e, blocks)
+no-blocks-are root e = rw (child-is 2 root ∙ ap (λ (name : List ℕ). child-named name root) initiation-row ∙ e, blocks)
 
 -- Another buffer has the same first b blocks and n payments.
 record Agrees (out other : List ℕ) (b n : ℕ) : Type 0 where
@@ -93,11 +93,11 @@ record Agrees (out other : List ℕ) (b n : ℕ) : Type 0 where
 pub record BeforeBlock (s tree out : List ℕ) (root : Element) (b n i stop : ℕ) : Type 0 where
   rest : List Element
   next-is : Next s tree block-name rest i stop
-  refusal-is : limits-refusal rows root ≡ too-many rows b n rest
-  blocks-left : length (blocks rows root) ≡ b + length rest
-  payments-left : length (payments rows root) ≡ n + length (payments-from rows b rest)
+  refusal-is : limits-refusal root ≡ too-many b n rest
+  blocks-left : length (blocks root) ≡ b + length rest
+  payments-left : length (payments root) ≡ n + length (payments-from b rest)
   order-is : 208 ≤ length out → (other : List ℕ) → Agrees out other b n → BlocksAt s tree other b rest
-      → PaymentsAt s tree other n (payments-from rows b rest) → Ordered s tree other root
+      → PaymentsAt s tree other n (payments-from b rest) → Ordered s tree other root
 
 -- Before the payment at element j of the block at element i.
 pub record BeforePayment (s tree out : List ℕ) (root : Element) (b n i j after stop : ℕ) : Type 0 where
@@ -107,43 +107,43 @@ pub record BeforePayment (s tree out : List ℕ) (root : Element) (b n i j after
   later-are : LaidAll s tree later after stop
   rest : List Element
   next-is : Next s tree payment-name rest j after
-  refusal-is : limits-refusal rows root ≡ (sixty-fifth rows n rest or-else too-many rows (suc b) (n + length rest) (with-name block-name (listed later)))
-  blocks-left : length (blocks rows root) ≡ b + 1 + length (with-name block-name (listed later))
-  payments-left : length (payments rows root) ≡ n + length (paid b block rest ++ payments-from rows (suc b) (with-name block-name (listed later)))
+  refusal-is : limits-refusal root ≡ (sixty-fifth n rest or-else too-many (suc b) (n + length rest) (with-name block-name (listed later)))
+  blocks-left : length (blocks root) ≡ b + 1 + length (with-name block-name (listed later))
+  payments-left : length (payments root) ≡ n + length (paid b block rest ++ payments-from (suc b) (with-name block-name (listed later)))
   order-is : 208 ≤ length out → (other : List ℕ) → Agrees out other (b + 1) n → BlocksAt s tree other (b + 1) (with-name block-name (listed later))
-      → PaymentsAt s tree other n (paid b block rest ++ payments-from rows (suc b) (with-name block-name (listed later))) → Ordered s tree other root
+      → PaymentsAt s tree other n (paid b block rest ++ payments-from (suc b) (with-name block-name (listed later))) → Ordered s tree other root
 
 -- one step of the paper's definitions
-excess-block : (n : ℕ) (t : Element) (ts : List Element) → too-many rows 16 n (t ∷ ts) ≡ refuse 5 10 (head-of t .at)
+excess-block : (n : ℕ) (t : Element) (ts : List Element) → too-many 16 n (t ∷ ts) ≡ refuse 5 10 (head-of t .at)
 unfolding too-many
 excess-block n t ts = refl
 
 next-block : (b n : ℕ) (t : Element) (ts : List Element) → (b ≡ 16 → ⊥)
-    → too-many rows b n (t ∷ ts) ≡ (sixty-fifth rows n (payments-in t) or-else too-many rows (suc b) (n + length (payments-in t)) ts)
+    → too-many b n (t ∷ ts) ≡ (sixty-fifth n (payments-in t) or-else too-many (suc b) (n + length (payments-in t)) ts)
 unfolding too-many
 next-block b n t ts h = rw (ne-eqb b 16 h, payments-in-are t)
 
-no-block : (b n : ℕ) → too-many rows b n [] ≡ none
+no-block : (b n : ℕ) → too-many b n [] ≡ none
 unfolding too-many
 no-block b n = refl
 
-excess-payment : (t : Element) (ts : List Element) (later : Option Refusal) → (sixty-fifth rows 64 (t ∷ ts) or-else later) ≡ refuse 5 37 (head-of t .at)
+excess-payment : (t : Element) (ts : List Element) (later : Option Refusal) → (sixty-fifth 64 (t ∷ ts) or-else later) ≡ refuse 5 37 (head-of t .at)
 unfolding sixty-fifth _or-else_ refuse
 excess-payment t ts later = refl
 
-next-payment : (n : ℕ) (t : Element) (ts : List Element) → (n ≡ 64 → ⊥) → sixty-fifth rows n (t ∷ ts) ≡ sixty-fifth rows (n + 1) ts
+next-payment : (n : ℕ) (t : Element) (ts : List Element) → (n ≡ 64 → ⊥) → sixty-fifth n (t ∷ ts) ≡ sixty-fifth (n + 1) ts
 unfolding sixty-fifth
 next-payment n t ts h = rw (ne-eqb n 64 h, add-one n)
 
-no-payment : (n : ℕ) (later : Option Refusal) → (sixty-fifth rows n [] or-else later) ≡ later
+no-payment : (n : ℕ) (later : Option Refusal) → (sixty-fifth n [] or-else later) ≡ later
 unfolding sixty-fifth _or-else_
 no-payment n later = refl
 
-payments-from-are : (b : ℕ) (t : Element) (ts : List Element) → payments-from rows b (t ∷ ts) ≡ paid b t (payments-in t) ++ payments-from rows (suc b) ts
+payments-from-are : (b : ℕ) (t : Element) (ts : List Element) → payments-from b (t ∷ ts) ≡ paid b t (payments-in t) ++ payments-from (suc b) ts
 unfolding payments-from
 payments-from-are b t ts = rw (payments-of-are b t)
 
-no-payments-from : (b : ℕ) → payments-from rows b [] ≡ []
+no-payments-from : (b : ℕ) → payments-from b [] ≡ []
 unfolding payments-from
 no-payments-from b = refl
 
@@ -208,15 +208,15 @@ module _ {s tree out : List ℕ} {root : Element} where
   unfolding limits-refusal payments
   begins {found} {i} {j} {stop} f e c first =
       let l = located f e in
-      let y : Next s tree block-name (blocks rows root) j (l .there-next) =
+      let y : Next s tree block-name (blocks root) j (l .there-next) =
       subst (λ (ts : List Element). Next s tree block-name ts j (l .there-next)) (sym (blocks-are root (l .there) (l .there-is)))
       (first (l .there) (l .there-next) (l .there-laid)) in
       record {
-        rest = blocks rows root;
-        next-is = subst (λ (h : ℕ). Next s tree block-name (blocks rows root) j h) (sym (ends-at (l .there-laid) c)) y;
+        rest = blocks root;
+        next-is = subst (λ (h : ℕ). Next s tree block-name (blocks root) j h) (sym (ends-at (l .there-laid) c)) y;
         refusal-is = refl;
-        blocks-left = sym (zero-add (length (blocks rows root)));
-        payments-left = sym (zero-add (length (payments-from rows 0 (blocks rows root))));
+        blocks-left = sym (zero-add (length (blocks root)));
+        payments-left = sym (zero-add (length (payments-from 0 (blocks root))));
         order-is = λ room other a bs ps. record { blocks-at = bs; payments-at = ps };
       }
 
@@ -224,9 +224,9 @@ module _ {s tree out : List ℕ} {root : Element} where
   pub finishes : {b n i stop : ℕ} → BeforeBlock s tree out root b n i stop → stop ≤ i → Limited s tree out root (Within b n)
   finishes {b} {n} w h =
       let e = next-none (w .next-is) h in
-      let x : payments-from rows b (w .rest) ≡ [] = ap (payments-from rows b) e ∙ no-payments-from b in
+      let x : payments-from b (w .rest) ≡ [] = ap (payments-from b) e ∙ no-payments-from b in
       is-within
-      (w .refusal-is ∙ ap (too-many rows b n) e ∙ no-block b n)
+      (w .refusal-is ∙ ap (too-many b n) e ∙ no-block b n)
       (w .blocks-left ∙ ap (λ (ts : List Element). b + length ts) e ∙ add-zero b)
       (w .payments-left ∙ ap (λ (ps : List Payment). n + length ps) x ∙ add-zero n)
       (λ room. w .order-is room out (record { same-blocks = λ k h. refl; same-payments = λ k h. refl })
@@ -235,27 +235,27 @@ module _ {s tree out : List ℕ} {root : Element} where
   pub holds-none : {found : Found} → Finds s tree (child-named (bytes "CstmrCdtTrfInitn") root) found → found ≡ Nothing → Limited s tree out root (Within 0 0)
   unfolding limits-refusal payments
   holds-none f e =
-      let x : blocks rows root ≡ [] = no-blocks-are root (absent f e) in
-      let y : payments-from rows 0 (blocks rows root) ≡ [] = ap (payments-from rows 0) x ∙ no-payments-from 0 in
-      is-within (ap (too-many rows 0 0) x ∙ no-block 0 0) (ap length x) (ap length y)
+      let x : blocks root ≡ [] = no-blocks-are root (absent f e) in
+      let y : payments-from 0 (blocks root) ≡ [] = ap (payments-from 0) x ∙ no-payments-from 0 in
+      is-within (ap (too-many 0 0) x ∙ no-block 0 0) (ap length x) (ap length y)
       (λ room. record { blocks-at = subst (BlocksAt s tree out 0) (sym x) no-blocks; payments-at = subst (PaymentsAt s tree out 0) (sym y) no-payments })
 
   -- a block in excess; a payment in excess
   pub block-exceeds : {b n i stop r : ℕ} → BeforeBlock s tree out root b n i stop → i < stop → b ≡ 16 → Cell tree i 0 r
-      → limits-refusal rows root ≡ refuse 5 10 r
+      → limits-refusal root ≡ refuse 5 10 r
   block-exceeds {b} {n} w h e c =
       let f = next-one (w .next-is) h in
-      w .refusal-is ∙ ap (too-many rows b n) (f .first-is) ∙ ap (λ (m : ℕ). too-many rows m n (f .one ∷ with-name block-name (listed (f .later)))) e ∙
+      w .refusal-is ∙ ap (too-many b n) (f .first-is) ∙ ap (λ (m : ℕ). too-many m n (f .one ∷ with-name block-name (listed (f .later)))) e ∙
       excess-block n (f .one) (with-name block-name (listed (f .later))) ∙ ap (refuse 5 10) (sym (at-cell (entry-of (f .one-laid)) c))
 
   pub payment-exceeds : {b n i j after stop r : ℕ} → BeforePayment s tree out root b n i j after stop → j < after → n ≡ 64 → Cell tree j 0 r
-      → limits-refusal rows root ≡ refuse 5 37 r
+      → limits-refusal root ≡ refuse 5 37 r
   payment-exceeds {b} {n} w h e c =
       let f = next-one (w .next-is) h in
       let others = with-name payment-name (listed (f .later)) in
-      let rest = too-many rows (suc b) (n + length (w .rest)) (with-name block-name (listed (w .later))) in
-      w .refusal-is ∙ ap (λ (ts : List Element). sixty-fifth rows n ts or-else rest) (f .first-is) ∙
-      ap (λ (m : ℕ). sixty-fifth rows m (f .one ∷ others) or-else rest) e ∙ excess-payment (f .one) others rest ∙
+      let rest = too-many (suc b) (n + length (w .rest)) (with-name block-name (listed (w .later))) in
+      w .refusal-is ∙ ap (λ (ts : List Element). sixty-fifth n ts or-else rest) (f .first-is) ∙
+      ap (λ (m : ℕ). sixty-fifth m (f .one ∷ others) or-else rest) e ∙ excess-payment (f .one) others rest ∙
       ap (refuse 5 37) (sym (at-cell (entry-of (f .one-laid)) c))
 
   -- into a block, past a payment, and out of a block
@@ -268,8 +268,8 @@ module _ {s tree out : List ℕ} {root : Element} where
       let t = f .one in
       let later = with-name block-name (listed (f .later)) in
       let x : after ≡ f .one-next = ends-at (f .one-laid) c in
-      let p : payments-from rows b (w .rest) ≡ paid b t (payments-in t) ++ payments-from rows (suc b) later =
-      ap (payments-from rows b) (f .first-is) ∙ payments-from-are b t later in
+      let p : payments-from b (w .rest) ≡ paid b t (payments-in t) ++ payments-from (suc b) later =
+      ap (payments-from b) (f .first-is) ∙ payments-from-are b t later in
       let l : Laid s tree t i after = subst (λ (m : ℕ). Laid s tree t i m) (sym x) (f .one-laid) in
       let q : now ≡ set out b i = put (omega (arith, few-enough (entry-of l))) in
       let y : b + suc (length later) ≡ b + 1 + length later = omega arith in
@@ -280,7 +280,7 @@ module _ {s tree out : List ℕ} {root : Element} where
         later-are = subst (λ (m : ℕ). LaidAll s tree (f .later) m stop) (sym x) (f .later-laid);
         rest = payments-in t;
         next-is = first t after l;
-        refusal-is = w .refusal-is ∙ ap (too-many rows b n) (f .first-is) ∙ next-block b n t later (λ e. omega arith);
+        refusal-is = w .refusal-is ∙ ap (too-many b n) (f .first-is) ∙ next-block b n t later (λ e. omega arith);
         blocks-left = w .blocks-left ∙ ap (λ (ts : List Element). b + length ts) (f .first-is) ∙ y;
         payments-left = w .payments-left ∙ ap (λ (ps : List Payment). n + length ps) p;
         order-is = λ room other a bs ps.
@@ -302,7 +302,7 @@ module _ {s tree out : List ℕ} {root : Element} where
       let t = f .one in
       let others = with-name payment-name (listed (f .later)) in
       let blocks-after = with-name block-name (listed (w .later)) in
-      let payments-after = payments-from rows (suc b) blocks-after in
+      let payments-after = payments-from (suc b) blocks-after in
       let p : paid b (w .block) (w .rest) ++ payments-after ≡
       record { own = t; block = w .block; block-number = b } ∷ (paid b (w .block) others ++ payments-after) =
       ap (λ (ts : List Element). paid b (w .block) ts ++ payments-after) (f .first-is) ∙ paid-more b (w .block) t others payments-after in
@@ -320,9 +320,9 @@ module _ {s tree out : List ℕ} {root : Element} where
         next-is = next t (f .later) (f .one-next) (f .one-laid) (f .later-laid);
         refusal-is =
             w .refusal-is ∙
-            ap (λ (ts : List Element). sixty-fifth rows n ts or-else too-many rows (suc b) (n + length ts) blocks-after) (f .first-is) ∙
-            ap (λ (r : Option Refusal). r or-else too-many rows (suc b) (n + suc (length others)) blocks-after) (next-payment n t others (λ e. omega arith)) ∙
-            ap (λ (m : ℕ). sixty-fifth rows (n + 1) others or-else too-many rows (suc b) m blocks-after) x;
+            ap (λ (ts : List Element). sixty-fifth n ts or-else too-many (suc b) (n + length ts) blocks-after) (f .first-is) ∙
+            ap (λ (r : Option Refusal). r or-else too-many (suc b) (n + suc (length others)) blocks-after) (next-payment n t others (λ e. omega arith)) ∙
+            ap (λ (m : ℕ). sixty-fifth (n + 1) others or-else too-many (suc b) m blocks-after) x;
         blocks-left = w .blocks-left;
         payments-left = w .payments-left ∙ ap (λ (ps : List Payment). n + length ps) p ∙ y;
         order-is = λ room other a bs ps.
@@ -348,16 +348,16 @@ module _ {s tree out : List ℕ} {root : Element} where
   leaves {b} {n} {i} {j} {k} {after} {stop} w h next =
       let e = next-none (w .next-is) h in
       let blocks-after = with-name block-name (listed (w .later)) in
-      let p : paid b (w .block) (w .rest) ++ payments-from rows (suc b) blocks-after ≡ payments-from rows (b + 1) blocks-after =
-      ap (λ (ts : List Element). paid b (w .block) ts ++ payments-from rows (suc b) blocks-after) e ∙
-      paid-none b (w .block) (payments-from rows (suc b) blocks-after) ∙ ap (λ (m : ℕ). payments-from rows m blocks-after) (sym (add-one b)) in
+      let p : paid b (w .block) (w .rest) ++ payments-from (suc b) blocks-after ≡ payments-from (b + 1) blocks-after =
+      ap (λ (ts : List Element). paid b (w .block) ts ++ payments-from (suc b) blocks-after) e ∙
+      paid-none b (w .block) (payments-from (suc b) blocks-after) ∙ ap (λ (m : ℕ). payments-from m blocks-after) (sym (add-one b)) in
       record {
         rest = blocks-after;
         next-is = next (w .block) (w .later) after (w .block-is) (w .later-are);
         refusal-is =
-            w .refusal-is ∙ ap (λ (ts : List Element). sixty-fifth rows n ts or-else too-many rows (suc b) (n + length ts) blocks-after) e ∙
-            no-payment n (too-many rows (suc b) (n + 0) blocks-after) ∙ ap (λ (m : ℕ). too-many rows m (n + 0) blocks-after) (sym (add-one b)) ∙
-            ap (λ (m : ℕ). too-many rows (b + 1) m blocks-after) (add-zero n);
+            w .refusal-is ∙ ap (λ (ts : List Element). sixty-fifth n ts or-else too-many (suc b) (n + length ts) blocks-after) e ∙
+            no-payment n (too-many (suc b) (n + 0) blocks-after) ∙ ap (λ (m : ℕ). too-many m (n + 0) blocks-after) (sym (add-one b)) ∙
+            ap (λ (m : ℕ). too-many (b + 1) m blocks-after) (add-zero n);
         blocks-left = w .blocks-left;
         payments-left = w .payments-left ∙ ap (λ (ps : List Payment). n + length ps) p;
         order-is = λ room other a bs ps. w .order-is room other a bs (subst (PaymentsAt s tree other n) (sym p) ps);

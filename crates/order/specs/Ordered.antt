@@ -6,7 +6,6 @@ use mathlib.Core.Option.{none}
 use mathlib.Core.Path.{_≡_}
 use lib.ListN.{length, getD}
 use Rattle.paper.specs.Form.{Element}
-use Rattle.paper.specs.Rows.{rows}
 use Rattle.paper.specs.Payments.{Payment, blocks, payments}
 use Rattle.paper.specs.Refusals.{refuse, limits-refusal}
 use Rattle.tree.specs.Laid.{Laid}
@@ -33,15 +32,15 @@ pub data PaymentsAt (s tree out : List ℕ) : (k : ℕ) → List Payment → Typ
       → PaymentsAt s tree out k (p ∷ ps)
 
 pub record Ordered (s tree out : List ℕ) (root : Element) : Type 0 where
-  pub blocks-at : BlocksAt s tree out 0 (blocks rows root)
-  pub payments-at : PaymentsAt s tree out 0 (payments rows root)
+  pub blocks-at : BlocksAt s tree out 0 (blocks root)
+  pub payments-at : PaymentsAt s tree out 0 (payments root)
 
 -- Refusal 5 as the answer says it: nothing is in excess, with the numbers of blocks and payments, all in order where the buffer has room; or the first
 -- element in excess.
 pub data Limited (s tree out : List ℕ) (root : Element) : Limits → Type 0 where
-  is-within : {b p : ℕ} → limits-refusal rows root ≡ none → length (blocks rows root) ≡ b → length (payments rows root) ≡ p
+  is-within : {b p : ℕ} → limits-refusal root ≡ none → length (blocks root) ≡ b → length (payments root) ≡ p
       → (208 ≤ length out → Ordered s tree out root) → Limited s tree out root (Within b p)
-  is-excess : {element offset : ℕ} → limits-refusal rows root ≡ refuse 5 element offset → Limited s tree out root (Excess element offset)
+  is-excess : {element offset : ℕ} → limits-refusal root ≡ refuse 5 element offset → Limited s tree out root (Excess element offset)
 
 -- at most 16 blocks and 64 payments
 abbrev pub Few : Limits → Type 0

@@ -1,3 +1,4 @@
 pub mod Counting
 pub mod Pairing
 pub mod Regroups
+pub mod Six

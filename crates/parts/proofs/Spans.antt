@@ -7,7 +7,6 @@ use mathlib.Core.Path.{_≡_, refl, sym, _∙_, ap, subst}
 use denote.Ref.{RefT, now}
 use lib.ListN.{length, getD, take, drop}
 use Rattle.paper.specs.Form.{Element}
-use Rattle.paper.specs.Rows.{rows}
 use Rattle.paper.specs.Payments.{Payment, payments}
 use Rattle.paper.specs.Table.{Part, part-of}
 use Rattle.paper.specs.Fields.{field-element, field-of}
@@ -27,10 +26,10 @@ so-many s start size = let e : start + size - start ≡ size = omega arith in ap
 pub record Kth (s tree order : List ℕ) (k : ℕ) (ps : List Payment) : Type 0 where
   pub p : Payment
   pub stands : PaymentAt s tree order k p
-  pub fields : (field : ℕ) → field-of rows ps k field ≡ part-of (field-element rows field p)
+  pub fields : (field : ℕ) → field-of ps k field ≡ part-of (field-element field p)
 
 kth-from : {s tree order : List ℕ} (j k : ℕ) (ps : List Payment) → PaymentsAt s tree order j ps → k < length ps
-    → (p : Payment) × PaymentAt s tree order (j + k) p × ((field : ℕ) → field-of rows ps k field ≡ part-of (field-element rows field p))
+    → (p : Payment) × PaymentAt s tree order (j + k) p × ((field : ℕ) → field-of ps k field ≡ part-of (field-element field p))
 unfolding field-of
 kth-from j k [] t h = absurd (omega arith)
 kth-from {s} {tree} {order} j zero (p ∷ ps) (more-payments at t) h =
@@ -40,9 +39,9 @@ kth-from {s} {tree} {order} j (suc k) (p ∷ ps) (more-payments at t) h =
     let e : j + 1 + k ≡ j + suc k = omega arith in
     (r .0, subst (λ (m : ℕ). PaymentAt s tree order m (r .0)) e (r .1), r .2)
 
-pub kth : {s tree order : List ℕ} {root : Element} (k : ℕ) → Ordered s tree order root → k < length (payments rows root) → Kth s tree order k (payments rows root)
+pub kth : {s tree order : List ℕ} {root : Element} (k : ℕ) → Ordered s tree order root → k < length (payments root) → Kth s tree order k (payments root)
 kth {s} {tree} {order} {root} k o h =
-    let r = kth-from 0 k (payments rows root) (o .payments-at) h in
+    let r = kth-from 0 k (payments root) (o .payments-at) h in
     let e : 0 + k ≡ k = omega arith in
     record { p = r .0; stands = subst (λ (m : ℕ). PaymentAt s tree order m (r .0)) e (r .1); fields = r .2 }
 
@@ -58,14 +57,14 @@ span-part {message} {handed} {r} {part} is h =
     }
 
 pub found-part : (k field : ℕ) {message handed : RefT (List ℕ)} {tree order : List ℕ} {root : Element} {own block : ℕ} {found : Found} {r : Span}
-    → Ordered (now message) tree order root → k < length (payments rows root) → own ≡ getD order (16 + 3 * k) 0 → block ≡ getD order (17 + 3 * k) 0
+    → Ordered (now message) tree order root → k < length (payments root) → own ≡ getD order (16 + 3 * k) 0 → block ≡ getD order (17 + 3 * k) 0
     → FieldAt (now message) tree own block field found → ((s : List ℕ) (o : Option Element) → Finds s tree o found → SpanIs s (part-of o) r)
     → (r .start + r .size ≤ length (now message) → HandsBack message handed (record { start = r .start; size = r .size }))
-    → HandsBack message handed (field-of rows (payments rows root) k field)
+    → HandsBack message handed (field-of (payments root) k field)
 found-part k field {message} {handed} {tree} {order} {root} {own} {block} o l a b f s h =
     let q = kth k o l in
     let p = q .p in
     let t = q .stands in
     let found = f p (t .own-next) (t .block-next) (subst (λ (i : ℕ). Laid (now message) tree (p .own) i (t .own-next)) (sym a) (t .own-is))
     (subst (λ (i : ℕ). Laid (now message) tree (p .block) i (t .block-next)) (sym b) (t .block-is)) in
-    subst (λ (x : Part). HandsBack message handed x) (sym (q .fields field)) (span-part (s (now message) (field-element rows field p) found) h)
+    subst (λ (x : Part). HandsBack message handed x) (sym (q .fields field)) (span-part (s (now message) (field-element field p) found) h)

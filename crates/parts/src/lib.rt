@@ -2,7 +2,6 @@
 ghost use Prim.Native.Nat.{_+_, _≤_, _<_};
 ghost use lib.ListN.{length};
 ghost use Rattle.paper.specs.Form.{Element};
-ghost use Rattle.paper.specs.Rows.{rows};
 ghost use Rattle.paper.specs.Payments.{payments as all-payments};
 ghost use Rattle.order.specs.Ordered.{Ordered};
 ghost use Rattle.parts.specs.Parts.{HandsBack};
@@ -30,7 +29,7 @@ pub fn field_in<'a>(
     k: usize,
     field: usize,
 ) -> &'a [u8]
-    ensures { λ r. ⌜ ((root : Element) → Ordered (now (message .entry)) (now (tree .entry)) (now (order .entry)) root → k < length (all-payments rows root) → k < 64 → HandsBack (message .entry) r (field-of rows (all-payments rows root) k field)) ⌝ }
+    ensures { λ r. ⌜ ((root : Element) → Ordered (now (message .entry)) (now (tree .entry)) (now (order .entry)) root → k < length (all-payments root) → k < 64 → HandsBack (message .entry) r (field-of (all-payments root) k field)) ⌝ }
 {
     if 64 <= k {
         return &message[0..0];

@@ -9,8 +9,8 @@ use native.Mathlib.Nat.{add-zero}
 use lib.Dec.{eqb, ltb}
 use borrow.Author.Tests.{ne-eqb, eqb-false, ltb-true, ltb-false}
 use Rattle.paper.specs.Bytes.{if_then_else_, same}
-use Rattle.paper.specs.Rows.{Place, one, opt, plus, either, further, Row, row-of}
-use Rattle.paper.specs.Refusals.{rows-at, required, left-of, first-row, missing, Sought, never, early, found, past, named-in, seek, Refusal, refuse, ends}
+use Rattle.paper.specs.Rows.{Place, one, opt, plus, either, Row, name, row-of}
+use Rattle.paper.specs.Refusals.{Left, from-here, again, rows-at, required, left-of, first-row, missing-of, missing, Sought, never, early, found, past, named-in, seek-in, seek, Refusal, refuse, ends}
 use Rattle.paper.proofs.Laws.{same-says, false-not-true}
 use Rattle.places.specs.Numbers.{of-entry, of-place, first-of, second-of, of-kind, place-at, places-from, places-between, places-left, name-at, row-at}
 use Rattle.places.specs.Seek.{lacking, behind, Resolved, Known, Takes, StandsAt, Seeks}
@@ -47,15 +47,15 @@ module _ (kind k l : ℕ) where
       go false false true = refl
       go false false false = refl
 
-  pub kind-plus : kind ≡ 2 → left-of (of-kind kind k l) ≡ further k ∷ []
+  pub kind-plus : (ps : List Place) → kind ≡ 2 → left-of (of-kind kind k l) ps ≡ again k ps
   unfolding of-kind left-of
-  kind-plus e = rw e
+  kind-plus ps e = rw e
 
-  pub kind-once : (kind ≡ 2 → ⊥) → left-of (of-kind kind k l) ≡ []
+  pub kind-once : (ps : List Place) → (kind ≡ 2 → ⊥) → left-of (of-kind kind k l) ps ≡ from-here ps
   unfolding of-kind left-of
-  kind-once n = rw (ne-eqb _ _ n) (go (eqb kind 0) (eqb kind 1))
+  kind-once ps n = rw (ne-eqb _ _ n) (go (eqb kind 0) (eqb kind 1))
     where
-      go : (a b : Bool) → left-of (if a then one k else if b then opt k else either (k ∷ l ∷ [])) ≡ []
+      go : (a b : Bool) → left-of (if a then one k else if b then opt k else either (k ∷ l ∷ [])) ps ≡ from-here ps
       go true b = refl
       go false true = refl
       go false false = refl
@@ -105,28 +105,26 @@ module _ (rows places : List ℕ) where
 
   -- the first row that is missing, place by place
   module _ (p q : ℕ) where
-    pub missing-goes : p < q → of-place places p 0 ≡ 1 → missing (places-between rows places p q) ≡ missing (places-between rows places (p + 1) q)
-    unfolding missing place-at
+    pub missing-goes : p < q → of-place places p 0 ≡ 1 → missing-of (places-between rows places p q) ≡ missing-of (places-between rows places (p + 1) q)
+    unfolding missing-of place-at
     missing-goes h e = rw (between-more p q h, kind-optional _ _ _ e)
 
-    pub missing-stops : p < q → (of-place places p 0 ≡ 1 → ⊥) → missing (places-between rows places p q) ≡ some (first-of rows places p)
-    unfolding missing place-at
+    pub missing-stops : p < q → (of-place places p 0 ≡ 1 → ⊥) → missing-of (places-between rows places p q) ≡ some (first-of rows places p)
+    unfolding missing-of place-at
     missing-stops h n = rw (between-more p q h, kind-required _ _ _ n, kind-first (of-place places p 0) (first-of rows places p) (second-of rows places p))
 
-    pub missing-ends : q ≤ p → missing (places-between rows places p q) ≡ none
-    unfolding missing
+    pub missing-ends : q ≤ p → missing-of (places-between rows places p q) ≡ none
+    unfolding missing-of
     missing-ends h = rw (between-none p q h)
 
 -- the entry that takes a place
-module _ {profile : List Row} {names rows places : List ℕ} {parent p : ℕ} (name : List ℕ) (r : Resolved profile names rows places parent p) where
-  named-by : (k e : ℕ) {t : Bool} → row-of profile parent k ≡ row-at names rows places e → same name (name-at names rows e) ≡ t
-      → same name (row-of profile parent k .name) ≡ t
-  unfolding row-at
-  named-by k e q s = rw q s
+module _ {profile : List Row} {names rows places : List ℕ} {parent p : ℕ} (w : List ℕ) (r : Resolved profile names rows places parent p) where
+  named-by : (e : ℕ) {t : Bool} → same w (name-at names rows e) ≡ t → same w (name (of-entry rows e 0)) ≡ t
+  named-by e s = rw (r .named e) s
 
-  takes-known : (e : ℕ) {k : ℕ} → k ≡ of-entry rows e 0 → row-of profile parent k ≡ row-at names rows places e → same name (name-at names rows e) ≡ true
-      → Known profile names rows places parent name e
-  takes-known e k q s = record { row-is = rw k at q; name-is = same-says name (name-at names rows e) s }
+  takes-known : (e : ℕ) {k : ℕ} → k ≡ of-entry rows e 0 → row-of profile parent k ≡ row-at names rows places e → same w (name-at names rows e) ≡ true
+      → Known profile names rows places parent w e
+  takes-known e k q s = record { row-is = rw k at q; name-is = same-says w (name-at names rows e) s }
 
   kind-begins : (kind k l : ℕ) → (ks : List ℕ) × (rows-at (of-kind kind k l) ≡ k ∷ ks)
   kind-begins kind k l = go (ltb kind 3) refl
@@ -135,42 +133,42 @@ module _ {profile : List Row} {names rows places : List ℕ} {parent p : ℕ} (n
       go true e = ([], kind-single kind k l (ltb-true kind 3 e))
       go false e = (l ∷ [], kind-choice kind k l (ltb-false kind 3 e))
 
-  first-takes : same name (name-at names rows (of-place places p 1)) ≡ true
-      → named-in profile parent (rows-at (place-at rows places p)) name ≡ some (first-of rows places p)
+  first-takes : same w (name-at names rows (of-place places p 1)) ≡ true
+      → named-in (rows-at (place-at rows places p)) w ≡ some (first-of rows places p)
   unfolding named-in place-at
   first-takes s =
       let b = kind-begins (of-place places p 0) (first-of rows places p) (second-of rows places p) in
-      rw (b .1, named-by (first-of rows places p) (of-place places p 1) (r .first-is) s)
+      rw (b .1, named-by (of-place places p 1) s)
 
-  pub by-first : {e : ℕ} → e ≡ of-place places p 1 → same name (name-at names rows e) ≡ true → Takes profile names rows places parent name p (taker.Entry e)
+  pub by-first : {e : ℕ} → e ≡ of-place places p 1 → same w (name-at names rows e) ≡ true → Takes profile names rows places parent w p (taker.Entry e)
   unfolding Takes
-  by-first {e} q s = rw q (let s : same name (name-at names rows (of-place places p 1)) ≡ true = rw q at s in (first-takes s, takes-known (of-place places p 1) refl (r .first-is) s))
+  by-first {e} q s = rw q (let s : same w (name-at names rows (of-place places p 1)) ≡ true = rw q at s in (first-takes s, takes-known (of-place places p 1) refl (r .first-is) s))
 
-  pub by-nobody : {e : ℕ} → e ≡ of-place places p 1 → same name (name-at names rows e) ≡ false → of-place places p 0 < 3 → Takes profile names rows places parent name p taker.Nobody
+  pub by-nobody : {e : ℕ} → e ≡ of-place places p 1 → same w (name-at names rows e) ≡ false → of-place places p 0 < 3 → Takes profile names rows places parent w p taker.Nobody
   unfolding Takes named-in place-at
   by-nobody {e} q s h =
-      let s : same name (name-at names rows (of-place places p 1)) ≡ false = rw q at s in
-      rw (kind-single (of-place places p 0) (first-of rows places p) (second-of rows places p) h, named-by (first-of rows places p) (of-place places p 1) (r .first-is) s)
+      let s : same w (name-at names rows (of-place places p 1)) ≡ false = rw q at s in
+      rw (kind-single (of-place places p 0) (first-of rows places p) (second-of rows places p) h, named-by (of-place places p 1) s)
 
-  module _ {d : ℕ} (q : d ≡ of-place places p 1) (s : same name (name-at names rows d) ≡ false) (h : 3 ≤ of-place places p 0) where
-    pub by-second : {e : ℕ} → e ≡ of-place places p 2 → same name (name-at names rows e) ≡ true → Takes profile names rows places parent name p (taker.Entry e)
+  module _ {d : ℕ} (q : d ≡ of-place places p 1) (s : same w (name-at names rows d) ≡ false) (h : 3 ≤ of-place places p 0) where
+    pub by-second : {e : ℕ} → e ≡ of-place places p 2 → same w (name-at names rows e) ≡ true → Takes profile names rows places parent w p (taker.Entry e)
     unfolding Takes named-in place-at
     by-second {e} q′ s′ =
-        let s : same name (name-at names rows (of-place places p 1)) ≡ false = rw q at s in
-        let s′ : same name (name-at names rows (of-place places p 2)) ≡ true = rw q′ at s′ in
+        let s : same w (name-at names rows (of-place places p 1)) ≡ false = rw q at s in
+        let s′ : same w (name-at names rows (of-place places p 2)) ≡ true = rw q′ at s′ in
         rw q′ (
           rw
-              (kind-choice (of-place places p 0) (first-of rows places p) (second-of rows places p) h, named-by (first-of rows places p) (of-place places p 1) (r .first-is) s, named-by (second-of rows places p) (of-place places p 2) (r .second-is) s′)
+              (kind-choice (of-place places p 0) (first-of rows places p) (second-of rows places p) h, named-by (of-place places p 1) s, named-by (of-place places p 2) s′)
               refl,
           takes-known (of-place places p 2) refl (r .second-is) s′,
         )
 
-    pub by-neither : {e : ℕ} → e ≡ of-place places p 2 → same name (name-at names rows e) ≡ false → Takes profile names rows places parent name p taker.Nobody
+    pub by-neither : {e : ℕ} → e ≡ of-place places p 2 → same w (name-at names rows e) ≡ false → Takes profile names rows places parent w p taker.Nobody
     unfolding Takes named-in place-at
     by-neither {e} q′ s′ =
-        let s : same name (name-at names rows (of-place places p 1)) ≡ false = rw q at s in
-        let s′ : same name (name-at names rows (of-place places p 2)) ≡ false = rw q′ at s′ in
-        rw (kind-choice (of-place places p 0) (first-of rows places p) (second-of rows places p) h, named-by (first-of rows places p) (of-place places p 1) (r .first-is) s, named-by (second-of rows places p) (of-place places p 2) (r .second-is) s′)
+        let s : same w (name-at names rows (of-place places p 1)) ≡ false = rw q at s in
+        let s′ : same w (name-at names rows (of-place places p 2)) ≡ false = rw q′ at s′ in
+        rw (kind-choice (of-place places p 0) (first-of rows places p) (second-of rows places p) h, named-by (of-place places p 1) s, named-by (of-place places p 2) s′)
 
 -- a child behind places that don't take it
 behind-one : (p : Place) (b : Bool) → required p ≡ b → (q : Sought) → past p q ≡ behind (if b then some (first-row (rows-at p)) else none) q
@@ -190,119 +188,119 @@ behind-known k p false e (early j) = rw e
 behind-known k p true e (found j left) = rw e
 behind-known k p false e (found j left) = rw e
 
-behind-past : (ps : List Place) (p : Place) (q : Sought) → behind (missing ps) (past p q) ≡ behind (missing (ps ++ (p ∷ []))) q
-unfolding missing behind
+behind-past : (ps : List Place) (p : Place) (q : Sought) → behind (missing-of ps) (past p q) ≡ behind (missing-of (ps ++ (p ∷ []))) q
+unfolding missing-of behind
 behind-past [] p q = behind-one p (required p) refl q
 behind-past (o ∷ ps) p q = go (required o) (behind-past ps p q)
   where
-    go : (b : Bool) → behind (missing ps) (past p q) ≡ behind (missing (ps ++ (p ∷ []))) q
-        → behind (if b then some (first-row (rows-at o)) else missing ps) (past p q)
-        ≡ behind (if b then some (first-row (rows-at o)) else missing (ps ++ (p ∷ []))) q
+    go : (b : Bool) → behind (missing-of ps) (past p q) ≡ behind (missing-of (ps ++ (p ∷ []))) q
+        → behind (if b then some (first-row (rows-at o)) else missing-of ps) (past p q)
+        ≡ behind (if b then some (first-row (rows-at o)) else missing-of (ps ++ (p ∷ []))) q
     go true e = behind-known (first-row (rows-at o)) p (required p) refl q
     go false e = e
 
 -- the search for a child's place, place by place
-module _ (profile : List Row) (parent : ℕ) (name : List ℕ) where
-  seek-none : (p : Place) (ps : List Place) → named-in profile parent (rows-at p) name ≡ none → seek profile parent (p ∷ ps) name ≡ past p (seek profile parent ps name)
-  unfolding seek
-  seek-none p ps e = rw (e, seek)
+module _ (w : List ℕ) where
+  seek-none : (p : Place) (ps : List Place) → named-in (rows-at p) w ≡ none → seek-in (p ∷ ps) w ≡ past p (seek-in ps w)
+  unfolding seek-in
+  seek-none p ps e = rw (e, seek-in)
 
-  seek-some : (p : Place) (ps : List Place) (k : ℕ) → named-in profile parent (rows-at p) name ≡ some k → seek profile parent (p ∷ ps) name ≡ found k (left-of p ++ ps)
-  unfolding seek
-  seek-some p ps k e = rw (e, seek)
+  seek-some : (p : Place) (ps : List Place) (k : ℕ) → named-in (rows-at p) w ≡ some k → seek-in (p ∷ ps) w ≡ found k (left-of p ps)
+  unfolding seek-in
+  seek-some p ps k e = rw (e, seek-in)
 
-  seek-nothing : (o : Option ℕ) → behind o (seek profile parent [] name) ≡ never
-  unfolding seek behind
+  seek-nothing : (o : Option ℕ) → behind o (seek-in [] w) ≡ never
+  unfolding seek-in behind
   seek-nothing none = refl
   seek-nothing (some k) = refl
 
-module _ (profile : List Row) (rows places : List ℕ) (parent : ℕ) (name : List ℕ) where
+module _ (profile : List Row) (rows places : List ℕ) (parent : ℕ) (w : List ℕ) where
   -- how far the search has come: the places from `from` up to p don't take the name
   abbrev pub SoFar : (from to p : ℕ) → Type 0
   SoFar from to p =
-      seek profile parent (places-between rows places from to) name ≡
-      behind (missing (places-between rows places from p)) (seek profile parent (places-between rows places p to) name)
+      seek-in (places-between rows places from to) w ≡
+      behind (missing-of (places-between rows places from p)) (seek-in (places-between rows places p to) w)
 
   pub find-starts : (from to : ℕ) → SoFar from to from
-  unfolding missing behind
+  unfolding missing-of behind
   find-starts from to = rw (between-none rows places from from (omega arith))
 
   module _ (names : List ℕ) (from to p : ℕ) where
-    pub find-goes : from ≤ p → p < to → SoFar from to p → Takes profile names rows places parent name p taker.Nobody → SoFar from to (p + 1)
+    pub find-goes : from ≤ p → p < to → SoFar from to p → Takes profile names rows places parent w p taker.Nobody → SoFar from to (p + 1)
     unfolding Takes
     find-goes l h e t =
-        let one = ap (λ (ps : List Place). seek profile parent ps name) (between-more rows places p to h) ∙ seek-none profile parent name (place-at rows places p) (places-between rows places (p + 1) to) t in
-        e ∙ ap (λ (q : Sought). behind (missing (places-between rows places from p)) q) one ∙
-        behind-past (places-between rows places from p) (place-at rows places p) (seek profile parent (places-between rows places (p + 1) to) name) ∙
-        ap (λ (ps : List Place). behind (missing ps) (seek profile parent (places-between rows places (p + 1) to) name)) (sym (between-end rows places from p l))
+        let one = ap (λ (ps : List Place). seek-in ps w) (between-more rows places p to h) ∙ seek-none w (place-at rows places p) (places-between rows places (p + 1) to) t in
+        e ∙ ap (λ (q : Sought). behind (missing-of (places-between rows places from p)) q) one ∙
+        behind-past (places-between rows places from p) (place-at rows places p) (seek-in (places-between rows places (p + 1) to) w) ∙
+        ap (λ (ps : List Place). behind (missing-of ps) (seek-in (places-between rows places (p + 1) to) w)) (sym (between-end rows places from p l))
 
-    pub find-stops : (d : ℕ) → from ≤ p → p < to → SoFar from to p → Takes profile names rows places parent name p (taker.Entry d)
-        → StandsAt profile names rows places parent name from to (standing.At p d)
+    pub find-stops : (d : ℕ) → from ≤ p → p < to → SoFar from to p → Takes profile names rows places parent w p (taker.Entry d)
+        → StandsAt profile names rows places parent w from to (standing.At p d)
     unfolding Takes StandsAt
     find-stops d l h e t =
-        let one = ap (λ (ps : List Place). seek profile parent ps name) (between-more rows places p to h) ∙
-        seek-some profile parent name (place-at rows places p) (places-between rows places (p + 1) to) (of-entry rows d 0) (t .0) in
-        (l, h, t .1, e ∙ ap (λ (q : Sought). behind (missing (places-between rows places from p)) q) one)
+        let one = ap (λ (ps : List Place). seek-in ps w) (between-more rows places p to h) ∙
+        seek-some w (place-at rows places p) (places-between rows places (p + 1) to) (of-entry rows d 0) (t .0) in
+        (l, h, t .1, e ∙ ap (λ (q : Sought). behind (missing-of (places-between rows places from p)) q) one)
 
-    pub find-ends : to ≤ p → SoFar from to p → StandsAt profile names rows places parent name from to standing.Nowhere
+    pub find-ends : to ≤ p → SoFar from to p → StandsAt profile names rows places parent w from to standing.Nowhere
     unfolding StandsAt
-    find-ends h e = e ∙ ap (λ (ps : List Place). behind (missing (places-between rows places from p)) (seek profile parent ps name)) (between-none rows places p to h) ∙
-        seek-nothing profile parent name (missing (places-between rows places from p))
+    find-ends h e = e ∙ ap (λ (ps : List Place). behind (missing-of (places-between rows places from p)) (seek-in ps w)) (between-none rows places p to h) ∙
+        seek-nothing w (missing-of (places-between rows places from p))
 
 -- what comes of a child whose place is known
-module _ (profile : List Row) (names rows places : List ℕ) (parent : ℕ) (name : List ℕ) (from to : ℕ) where
-  pub seek-never : {r : Standing} → StandsAt profile names rows places parent name from to r → r ≡ standing.Nowhere
-      → Seeks profile names rows places parent name (places-between rows places from to) from to sought.Never
-  unfolding StandsAt Seeks
+module _ (profile : List Row) (names rows places : List ℕ) (parent : ℕ) (w : List ℕ) (from to : ℕ) where
+  pub seek-never : {r : Standing} → StandsAt profile names rows places parent w from to r → r ≡ standing.Nowhere
+      → Seeks profile names rows places parent w (from-here (places-between rows places from to)) from to sought.Never
+  unfolding StandsAt Seeks seek
   seek-never s e = rw e at s
 
-  module _ {r : Standing} {p d : ℕ} (s : StandsAt profile names rows places parent name from to r) (e : r ≡ standing.At p d) where
-    at : StandsAt profile names rows places parent name from to (standing.At p d)
+  module _ {r : Standing} {p d : ℕ} (s : StandsAt profile names rows places parent w from to r) (e : r ≡ standing.At p d) where
+    at : StandsAt profile names rows places parent w from to (standing.At p d)
     at = rw e at s
 
     pub at-inside : p < to
     unfolding StandsAt
     at-inside = at .1
 
-    pub seek-early : {l : Lacks} {k : ℕ} → lacking l ≡ missing (places-between rows places from p) → l ≡ lacks.Row k
-        → Seeks profile names rows places parent name (places-between rows places from to) from to (sought.Early k)
-    unfolding StandsAt Seeks lacking behind
+    pub seek-early : {l : Lacks} {k : ℕ} → lacking l ≡ missing-of (places-between rows places from p) → l ≡ lacks.Row k
+        → Seeks profile names rows places parent w (from-here (places-between rows places from to)) from to (sought.Early k)
+    unfolding StandsAt Seeks seek lacking behind
     seek-early {k = k} m q =
-        let found-at : some k ≡ missing (places-between rows places from p) = rw q at m in
-        at .3 ∙ ap (λ (o : Option ℕ). behind o (found (of-entry rows d 0) (left-of (place-at rows places p) ++ places-between rows places (p + 1) to))) (sym found-at)
+        let found-at : some k ≡ missing-of (places-between rows places from p) = rw q at m in
+        at .3 ∙ ap (λ (o : Option ℕ). behind o (found (of-entry rows d 0) (left-of (place-at rows places p) (places-between rows places (p + 1) to)))) (sym found-at)
 
-    module _ {l : Lacks} (m : lacking l ≡ missing (places-between rows places from p)) (q : l ≡ lacks.Nothing) where
-      seek-found : seek profile parent (places-between rows places from to) name ≡ found (of-entry rows d 0) (left-of (place-at rows places p) ++ places-between rows places (p + 1) to)
+    module _ {l : Lacks} (m : lacking l ≡ missing-of (places-between rows places from p)) (q : l ≡ lacks.Nothing) where
+      seek-found : seek-in (places-between rows places from to) w ≡ found (of-entry rows d 0) (left-of (place-at rows places p) (places-between rows places (p + 1) to))
       unfolding StandsAt lacking behind
       seek-found =
-          let found-at : none ≡ missing (places-between rows places from p) = rw q at m in
-          at .3 ∙ ap (λ (o : Option ℕ). behind o (found (of-entry rows d 0) (left-of (place-at rows places p) ++ places-between rows places (p + 1) to))) (sym found-at)
+          let found-at : none ≡ missing-of (places-between rows places from p) = rw q at m in
+          at .3 ∙ ap (λ (o : Option ℕ). behind o (found (of-entry rows d 0) (left-of (place-at rows places p) (places-between rows places (p + 1) to)))) (sym found-at)
 
-      pub seek-plus : of-place places p 0 ≡ 2 → Seeks profile names rows places parent name (places-between rows places from to) from to (sought.Found d p true)
-      unfolding StandsAt Seeks places-left place-at
+      pub seek-plus : of-place places p 0 ≡ 2 → Seeks profile names rows places parent w (from-here (places-between rows places from to)) from to (sought.Found d p true)
+      unfolding StandsAt Seeks seek places-left place-at
       seek-plus k = (
         at .0,
         λ _. at .1,
         at .2,
-        seek-found ∙ ap (λ (ps : List Place). found (of-entry rows d 0) (ps ++ places-between rows places (p + 1) to))
-            (kind-plus (of-place places p 0) (first-of rows places p) (second-of rows places p) k),
+        seek-found ∙ ap (λ (l : Left). found (of-entry rows d 0) l)
+            (kind-plus (of-place places p 0) (first-of rows places p) (second-of rows places p) (places-between rows places (p + 1) to) k),
       )
 
-      pub seek-once : (of-place places p 0 ≡ 2 → ⊥) → Seeks profile names rows places parent name (places-between rows places from to) from to (sought.Found d (p + 1) false)
-      unfolding StandsAt Seeks places-left place-at
+      pub seek-once : (of-place places p 0 ≡ 2 → ⊥) → Seeks profile names rows places parent w (from-here (places-between rows places from to)) from to (sought.Found d (p + 1) false)
+      unfolding StandsAt Seeks seek places-left place-at
       seek-once k = (
         omega (arith, at .0),
         λ f. false-not-true f,
         at .2,
-        seek-found ∙ ap (λ (ps : List Place). found (of-entry rows d 0) (ps ++ places-between rows places (p + 1) to))
-            (kind-once (of-place places p 0) (first-of rows places p) (second-of rows places p) k),
+        seek-found ∙ ap (λ (l : Left). found (of-entry rows d 0) l)
+            (kind-once (of-place places p 0) (first-of rows places p) (second-of rows places p) (places-between rows places (p + 1) to) k),
       )
 
   -- one of a `plus` may have been seen
   abbrev pub Sought-where : Bool → Sought′ → Type 0
-  Sought-where seen r = Seeks profile names rows places parent name (places-left rows places from seen to) from to r
+  Sought-where seen r = Seeks profile names rows places parent w (places-left rows places from seen to) from to r
 
-  pub seek-fresh : (r : Sought′) {seen : Bool} → seen ≡ false → Seeks profile names rows places parent name (places-between rows places from to) from to r → Sought-where seen r
+  pub seek-fresh : (r : Sought′) {seen : Bool} → seen ≡ false → Seeks profile names rows places parent w (from-here (places-between rows places from to)) from to r → Sought-where seen r
   unfolding places-left
   seek-fresh r f s = rw f s
 
@@ -310,61 +308,46 @@ module _ (profile : List Row) (names rows places : List ℕ) (parent : ℕ) (nam
   seek-seen r f s = rw f s
 
   module _ (f : Resolved profile names rows places parent from) (h : from < to) where
-    pub seek-again : (d : ℕ) → d ≡ of-place places from 1 → same name (name-at names rows d) ≡ true → Sought-where true (sought.Found d from true)
-    unfolding Seeks places-left named-in rows-at left-of
+    pub seek-again : (d : ℕ) → d ≡ of-place places from 1 → same w (name-at names rows d) ≡ true → Sought-where true (sought.Found d from true)
+    unfolding Seeks seek places-left
     seek-again d q s =
-        let t : same name (name-at names rows (of-place places from 1)) ≡ true = rw q at s in
-        let known = takes-known name f (of-place places from 1) refl (f .first-is) t in
-        let n : named-in profile parent (rows-at (further (first-of rows places from))) name ≡ some (first-of rows places from) =
-        rw (named-by name f (first-of rows places from) (of-place places from 1) (f .first-is) t) in
-        (omega arith, λ _. h, rw q known, rw q (seek-some profile parent name (further (first-of rows places from)) (places-between rows places (from + 1) to) (first-of rows places from) n))
+        let t : same w (name-at names rows (of-place places from 1)) ≡ true = rw q at s in
+        let known = takes-known w f (of-place places from 1) refl (f .first-is) t in
+        (omega arith, λ _. h, rw q known, rw (q, named-by w f (of-place places from 1) t))
 
-    further-past : (k : ℕ) (q : Sought) → past (further k) q ≡ q
-    unfolding past required
-    further-past k never = refl
-    further-past k (early j) = refl
-    further-past k (found j left) = refl
-
-    pub seek-on : (d : ℕ) → d ≡ of-place places from 1 → same name (name-at names rows d) ≡ false
-        → (r : Sought′) → Seeks profile names rows places parent name (places-between rows places (from + 1) to) (from + 1) to r → Sought-where true r
-    unfolding Seeks places-left named-in rows-at
+    pub seek-on : (d : ℕ) → d ≡ of-place places from 1 → same w (name-at names rows d) ≡ false
+        → (r : Sought′) → Seeks profile names rows places parent w (from-here (places-between rows places (from + 1) to)) (from + 1) to r → Sought-where true r
+    unfolding Seeks seek places-left
     seek-on d q s r g = go r g
       where
-        t : same name (name-at names rows (of-place places from 1)) ≡ false
-        t = rw q at s
+        skip : (if same w (name (first-of rows places from)) then found (first-of rows places from) (again (first-of rows places from) (places-between rows places (from + 1) to)) else
+            seek-in (places-between rows places (from + 1) to) w) ≡ seek-in (places-between rows places (from + 1) to) w
+        skip = let t : same w (name-at names rows (of-place places from 1)) ≡ false = rw q at s in rw (named-by w f (of-place places from 1) t)
 
-        n : named-in profile parent (rows-at (further (first-of rows places from))) name ≡ none
-        n = rw (named-by name f (first-of rows places from) (of-place places from 1) (f .first-is) t)
-
-        skip : seek profile parent (places-left rows places from true to) name ≡ seek profile parent (places-between rows places (from + 1) to) name
-        skip =
-            seek-none profile parent name (further (first-of rows places from)) (places-between rows places (from + 1) to) n ∙
-            further-past (first-of rows places from) (seek profile parent (places-between rows places (from + 1) to) name)
-
-        go : (r : Sought′) → Seeks profile names rows places parent name (places-between rows places (from + 1) to) (from + 1) to r → Sought-where true r
+        go : (r : Sought′) → Seeks profile names rows places parent w (from-here (places-between rows places (from + 1) to)) (from + 1) to r → Sought-where true r
         go sought.Never g = skip ∙ g
         go (sought.Early k) g = skip ∙ g
         go (sought.Found e p m) g = (omega (arith, g .0), g .1, g .2, skip ∙ g .3)
 
 -- the end tag
 module _ (close : ℕ) where
-  pub ends-early : (ps : List Place) {l : Lacks} {k : ℕ} → lacking l ≡ missing ps → l ≡ lacks.Row k → refuse 4 k close ≡ ends ps close
-  unfolding ends lacking
-  ends-early ps {k = k} m q = let e : missing ps ≡ some k = sym (rw q at m) in rw (e, ends)
+  pub ends-early : (ps : List Place) {l : Lacks} {k : ℕ} → lacking l ≡ missing-of ps → l ≡ lacks.Row k → refuse 4 k close ≡ ends (from-here ps) close
+  unfolding ends missing lacking
+  ends-early ps {k = k} m q = let e : missing-of ps ≡ some k = sym (rw q at m) in rw (e, ends)
 
-  pub ends-well : (ps : List Place) {l : Lacks} → lacking l ≡ missing ps → l ≡ lacks.Nothing → none ≡ ends ps close
-  unfolding ends lacking
-  ends-well ps m q = let e : missing ps ≡ none = sym (rw q at m) in rw (e, ends)
+  pub ends-well : (ps : List Place) {l : Lacks} → lacking l ≡ missing-of ps → l ≡ lacks.Nothing → none ≡ ends (from-here ps) close
+  unfolding ends missing lacking
+  ends-well ps m q = let e : missing-of ps ≡ none = sym (rw q at m) in rw (e, ends)
 
   module _ (rows places : List ℕ) (from to : ℕ) where
-    pub ends-fresh : {o : Option Refusal} {seen : Bool} → seen ≡ false → o ≡ ends (places-between rows places from to) close → o ≡ ends (places-left rows places from seen to) close
+    pub ends-fresh : {o : Option Refusal} {seen : Bool} → seen ≡ false → o ≡ ends (from-here (places-between rows places from to)) close → o ≡ ends (places-left rows places from seen to) close
     unfolding places-left
     ends-fresh f e = rw f e
 
-    pub ends-on : {o : Option Refusal} {seen : Bool} → seen ≡ true → o ≡ ends (places-between rows places (from + 1) to) close → o ≡ ends (places-left rows places from seen to) close
-    unfolding places-left ends missing required
+    pub ends-on : {o : Option Refusal} {seen : Bool} → seen ≡ true → o ≡ ends (from-here (places-between rows places (from + 1) to)) close → o ≡ ends (places-left rows places from seen to) close
+    unfolding places-left ends missing
     ends-on f e = rw f e
 
     pub ends-nothing : {seen : Bool} → seen ≡ true → to ≤ from → none ≡ ends (places-left rows places from seen to) close
-    unfolding places-left ends missing required
+    unfolding places-left ends missing missing-of
     ends-nothing f h = rw (f, between-none rows places (from + 1) to (omega arith))

@@ -7,8 +7,9 @@ use mathlib.Core.Bool.{Bool, true, false}
 use mathlib.Core.Path.{_≡_}
 use lib.Dec.{eqb}
 use lib.ListN.{getD}
-use Rattle.paper.specs.Bytes.{if_then_else_, bytes}
-use Rattle.paper.specs.Rows.{Place, one, opt, plus, either, further, Holds, text, elements, Row, row-of}
+use Rattle.paper.specs.Bytes.{if_then_else_}
+use Rattle.paper.specs.Rows.{Place, one, opt, plus, either, name, Holds, text, elements, Row, row-of}
+use Rattle.paper.specs.Refusals.{Left, from-here, again}
 use Rattle.tree.specs.Laid.{between}
 
 -- number k of entry e; of place p
@@ -41,9 +42,9 @@ module _ (rows places : List ℕ) where
   places-between p q = places-from (q - p) p
 
   -- the places left up to q: from p on; or, once one of a `plus` at p has been seen, what is left of that and the ones behind it
-  unfoldable pub places-left : (p : ℕ) → Bool → (q : ℕ) → List Place
-  places-left p false q = places-between p q
-  places-left p true q = further (first-of rows places p) ∷ places-between (p + 1) q
+  unfoldable pub places-left : (p : ℕ) → Bool → (q : ℕ) → Left
+  places-left p false q = from-here (places-between p q)
+  places-left p true q = again (first-of rows places p) (places-between (p + 1) q)
 
   unfoldable pub holds-at : ℕ → Holds
   holds-at e = if eqb (of-entry rows e 4) 0 then elements (places-between (of-entry rows e 5) (of-entry rows e 6)) else text (of-entry rows e 4)
@@ -56,12 +57,11 @@ unfoldable pub row-at : (names rows places : List ℕ) → ℕ → Row
 row-at names rows places e =
     record { row = of-entry rows e 0; under = of-entry rows e 1; name = name-at names rows e; holds = holds-at rows places e }
 
--- The numbers stand for a table: entry 0 is row 1; the entries at the places of an entry's row are that table's rows under it; and row 42 has its name, by which
--- an element of it is known to have a currency.
+-- The numbers stand for a profile: entry 0 is row 1; the entries at the places of an entry's row are that profile's rows under it; and each entry has its row's name.
 pub record Stands (profile : List Row) (names rows places : List ℕ) : Type 0 where
   pub root-is : row-at names rows places 0 ≡ row-of profile 0 1
   pub first-is : (e p : ℕ) → of-entry rows e 5 ≤ p → p < of-entry rows e 6
       → row-of profile (of-entry rows e 0) (first-of rows places p) ≡ row-at names rows places (of-place places p 1)
   pub second-is : (e p : ℕ) → of-entry rows e 5 ≤ p → p < of-entry rows e 6
       → row-of profile (of-entry rows e 0) (second-of rows places p) ≡ row-at names rows places (of-place places p 2)
-  pub amount-is : (e : ℕ) → of-entry rows e 0 ≡ 42 → name-at names rows e ≡ bytes "InstdAmt"
+  pub named : (e : ℕ) → name (of-entry rows e 0) ≡ name-at names rows e

@@ -9,7 +9,7 @@ ghost use lib.ListN.{getD};
 ghost use Rattle.paper.specs.Bytes.{same};
 ghost use Rattle.paper.specs.Form.{Head};
 ghost use Rattle.paper.specs.Rows.{Row};
-ghost use Rattle.paper.specs.Refusals.{missing, ends};
+ghost use Rattle.paper.specs.Refusals.{from-here, missing-of, ends};
 ghost use Rattle.paper.specs.Answers.{refusal-found};
 ghost use Rattle.tree.specs.Laid.{between, Entry};
 ghost use Rattle.places.specs.Numbers.{of-entry, of-place, places-between, places-left, name-at};
@@ -90,7 +90,7 @@ pub fn part(t: &[u8], from: usize, to: usize) -> &[u8]
 
 // The first row that is missing among the places from `from` up to `to`.
 fn missing(rows: &[u16], places: &[u16], from: u16, to: u16) -> Lacks
-    ensures { λ r. ⌜ lacking r ≡ missing (places-between (now (rows .entry)) (now (places .entry)) from to) ⌝ }
+    ensures { λ r. ⌜ lacking r ≡ missing-of (places-between (now (rows .entry)) (now (places .entry)) from to) ⌝ }
 {
     let mut p = from;
     while p < to {
@@ -177,7 +177,7 @@ fn seek(
 ) -> Sought
     ensures { λ r. ⌜ ((profile : List Row) (parent : ℕ) (h : Head) (next : ℕ) → ResolvedBetween profile (now (names .entry)) (now (rows .entry)) (now (places .entry)) parent from to
         → Entry (now (s .entry)) (now (tree .entry)) i h next
-        → Seeks profile (now (names .entry)) (now (rows .entry)) (now (places .entry)) parent (h .name) (places-between (now (rows .entry)) (now (places .entry)) from to) from to r) ⌝ }
+        → Seeks profile (now (names .entry)) (now (rows .entry)) (now (places .entry)) parent (h .name) (from-here (places-between (now (rows .entry)) (now (places .entry)) from to)) from to r) ⌝ }
 {
     let standing = find(s, tree, names, rows, places, i, from, to);
     let Standing::At { place, entry } = standing else {
@@ -239,7 +239,7 @@ pub fn seek_further(
 
 // The end tag of a group, where the places from `from` up to `to` are left.
 pub fn ends(rows: &[u16], places: &[u16], from: u16, to: u16, close: usize) -> Finding
-    ensures { λ r. ⌜ refusal-found r ≡ ends (places-between (now (rows .entry)) (now (places .entry)) from to) close ⌝ }
+    ensures { λ r. ⌜ refusal-found r ≡ ends (from-here (places-between (now (rows .entry)) (now (places .entry)) from to)) close ⌝ }
 {
     let lacks = missing(rows, places, from, to);
     if let Lacks::Row(element) = lacks {

@@ -1,75 +1,114 @@
--- The contracts of the reader determine their answers; and demands 1 and 2 as the contract of `verdict` has them.
+-- The promises of the reader determine its answers; and demands 1 and 2 as the promise of `verdict` has them.
 use Prim.Native.Nat.{ℕ, _≤_}
-use native.Mathlib.Omega.{arith}
-use mathlib.Core.List.{List}
-use mathlib.Core.Path.{_≡_, refl, sym, ap, _∙_}
+use mathlib.Core.List.{List, List·Memᴰ}
+use mathlib.Core.Path.{_≡_, refl, sym, ap, _∙_, subst}
 use mathlib.Core.Logic.{_↔_}
 use lib.ListN.{length}
+use borrow.Author.Tests.{eqb-false}
 use denote.Ref.{RefT, now}
+use Rattle.paper.specs.Sizes.{least-table, largest-message}
+use Rattle.paper.specs.Form.{Element, FirstImpossible}
 use Rattle.paper.specs.Rows.{rows}
-use Rattle.paper.specs.Refusals.{Outcome, refused-as, accepted-with, Answer, accepted, refused, answer, outcome, verdict, least-table}
-use Rattle.paper.specs.Table.{Part, over, written, table-after}
-use Rattle.paper.specs.Accepted.{Accepted}
-use Rattle.paper.specs.Answers.{answer-of, refusal-of}
+use Rattle.paper.specs.Payments.{blocks, payments, total}
+use Rattle.paper.specs.Refusals.{Outcome, refused-as, accepted-with, MessageAnswer, accepted, refused, answer-to, outcome, verdict}
+use Rattle.paper.specs.Accepted.{All, Accepted}
+use Rattle.paper.specs.Order.{Stage, order, numbers, Holds, FirstNot}
+use Rattle.paper.specs.Table.{over, written, table-after, PairsThere}
+use Rattle.paper.specs.Answers.{verdict-says, refusal-of, numbered}
 use Rattle.paper.specs.declared.Fault.{Fault}
+use Rattle.paper.specs.declared.Fault.the-variants.{NotOfTheForm}
 use Rattle.paper.specs.declared.Verdict.{Verdict}
 use Rattle.paper.specs.declared.Verdict.the-variants as the
+use Rattle.acceptance.proofs.Proper.{rows-proper}
+use Rattle.acceptance.proofs.Present.{no-other-absent}
+use Rattle.acceptance.proofs.Outcome.{accepted-alone, accepted-with-table}
 use Rattle.acceptance.proofs.Accepts.{accepts-with-table}
-use Rattle.answers.proofs.Agreement.{one-verdict}
-use Rattle.parts.specs.Parts.{HandsBack}
-use Rattle.reader.specs.Answers.{Answers}
+use Rattle.acceptance.proofs.Order as the-order
+use Rattle.answers.proofs.Agreement.{one-verdict, no-zero}
+use Rattle.reader.specs.Promises.{VerdictPromise, FieldPromise}
 
--- two answers that meet the contract of `verdict`, and what they leave in the table, are the same
-pub answers-agree : {message before after other : List ℕ} (v w : Verdict) → Answers message before v after → Answers message before w other → v ≡ w
+-- two answers that keep the promise of `verdict`, and what they leave in the table, are the same
+pub answers-agree : {message before after other : List ℕ} (v w : Verdict) → VerdictPromise message before v after → VerdictPromise message before w other → v ≡ w
 answers-agree v w a b = one-verdict v w (a .answer-is ∙ sym (b .answer-is))
 
-pub tables-agree : {message before after other : List ℕ} {v w : Verdict} → Answers message before v after → Answers message before w other → after ≡ other
+pub tables-agree : {message before after other : List ℕ} {v w : Verdict} → VerdictPromise message before v after → VerdictPromise message before w other → after ≡ other
 tables-agree a b = a .table-is ∙ sym (b .table-is)
 
--- two parts that are handed back for the same text have the same bytes and lie at the same place
-pub parts-agree : {message a b : RefT (List ℕ)} {part : Part} → HandsBack message a part → HandsBack message b part
+-- two parts that keep the promise of `field` have the same bytes and lie at the same place
+pub fields-agree : {message a b : RefT (List ℕ)} (payment field : ℕ) → FieldPromise message payment field a → FieldPromise message payment field b
     → (now a ≡ now b) × (a .ptr .0 ≡ b .ptr .0) × (a .ptr .1 ≡ b .ptr .1)
-parts-agree h g = (h .bytes-are ∙ sym (g .bytes-are), h .in-the-message ∙ sym (g .in-the-message), h .at-its-place ∙ sym (g .at-its-place))
-
--- whether an answer accepts, as a number and of a verdict
-accepts : Answer → ℕ
-accepts (accepted blocks payments cents) = 1
-accepts (refused r) = 0
+fields-agree payment field h g = (h .bytes-are ∙ sym (g .bytes-are), h .in-the-message ∙ sym (g .in-the-message), h .at-its-place ∙ sym (g .at-its-place))
 
 pub data IsAccepted : Verdict → Type 0 where
   is-accepted : {blocks payments cents : ℕ} → IsAccepted (the.Accepted blocks payments cents)
 
-accepted-one : {v : Verdict} → IsAccepted v → accepts (answer-of v) ≡ 1
-unfolding accepts answer-of
-accepted-one is-accepted = refl
+-- Number 0 is acceptance.
+accepted-zero : {v : Verdict} → IsAccepted v → verdict-says v .number ≡ 0
+unfolding verdict-says accepted
+accepted-zero is-accepted = refl
 
-one-accepted : (v : Verdict) → accepts (answer-of v) ≡ 1 → IsAccepted v
-unfolding accepts answer-of
-one-accepted (the.Accepted blocks payments cents) e = is-accepted
-one-accepted (the.Refused f) e = absurd (omega (arith, e))
+zero-accepted : (v : Verdict) → verdict-says v .number ≡ 0 → IsAccepted v
+unfolding verdict-says refused
+zero-accepted (the.Accepted blocks payments cents) e = is-accepted
+zero-accepted (the.Refused f) e = absurd (eqb-false (refusal-of f .number) 0 (no-zero f) e)
+
+module _ {s before after : List ℕ} {v : Verdict} (a : VerdictPromise s before v after) where
+  number-is : verdict-says v .number ≡ verdict rows (length before) s .number
+  number-is = ap (λ (m : MessageAnswer). m .number) (a .answer-is)
+
+  -- Demand 2: a message is accepted exactly when the table is long enough and the rules hold of it.
+  pub accepted-exactly : IsAccepted v ↔ (least-table ≤ length before) × Accepted rows s
+  accepted-exactly =
+      let z = the-order.accepted-zero rows rows-proper (length before) s in
+      ((λ i. z .0 (sym number-is ∙ accepted-zero i)), (λ h. zero-accepted v (number-is ∙ z .1 h)))
+
+  -- Otherwise the refusal is the first by the order of the checks: its number is one of the first stage that does not hold.
+  pub refused-by : (stage : Stage) → List·Memᴰ (verdict-says v .number) (numbers stage) ↔ FirstNot (Holds rows (length before) s) order stage
+  refused-by stage =
+      let z = the-order.refused-by rows rows-proper (length before) s stage in (
+        (λ m. z .0 (subst (λ (n : ℕ). List·Memᴰ n (numbers stage)) number-is m)),
+        (λ f. subst (λ (n : ℕ). List·Memᴰ n (numbers stage)) (sym number-is) (z .1 f)),
+      )
+
+  -- Refused with 2 at k exactly when the table is long enough, the message is not too long and k is its first impossible byte.
+  pub form-refused : (k : ℕ) → (v ≡ the.Refused (NotOfTheForm k)) ↔ (least-table ≤ length before) × (length s ≤ largest-message) × FirstImpossible s k
+  unfolding verdict-says refusal-of numbered
+  form-refused k =
+      let z = the-order.form-refused rows rows-proper (length before) s k in
+      ((λ e. z .0 (sym (a .answer-is) ∙ ap verdict-says e)), (λ h. one-verdict v (the.Refused (NotOfTheForm k)) (a .answer-is ∙ z .1 h)))
 
 -- Demand 1: after a refusal the table keeps its old numbers.
-pub refused-keeps : {s before after : List ℕ} {f : Fault} → Answers s before (the.Refused f) after → after ≡ before
-unfolding verdict answer answer-of accepts table-after over written
+pub refused-keeps : {s before after : List ℕ} {f : Fault} → VerdictPromise s before (the.Refused f) after → after ≡ before
+unfolding verdict answer-to verdict-says refused accepted table-after over written
 refused-keeps {s} {before} {after} {f} a = go (outcome rows (length before) s) (a .answer-is) (a .table-is)
   where
-    go : (o : Outcome) → refused (refusal-of f) ≡ answer rows o → after ≡ table-after rows o before → after ≡ before
+    go : (o : Outcome) → refused (refusal-of f) ≡ answer-to o → after ≡ table-after o before → after ≡ before
     go (refused-as r) e t = t
-    go (accepted-with root) e t = let z : _≡_ {A = ℕ} 0 1 = ap accepts e in absurd (omega (arith, z))
+    go (accepted-with root) e t = absurd (eqb-false (refusal-of f .number) 0 (no-zero f) (ap (λ (m : MessageAnswer). m .number) e))
 
--- Demand 2: with a table that is long enough a message is accepted exactly when document 01's rules hold of it.
-module _ {s before after : List ℕ} {v : Verdict} (long : least-table ≤ length before) (a : Answers s before v after) where
-  accepted-rules : IsAccepted v → Accepted rows s
-  unfolding verdict answer answer-of accepts
-  accepted-rules i = go (outcome rows (length before) s) refl
-    where
-      go : (o : Outcome) → outcome rows (length before) s ≡ o → Accepted rows s
-      go (accepted-with root) p = accepts-with-table (length before) s long .0 (root, p)
-      go (refused-as r) p = let z : _≡_ {A = ℕ} 1 0 = sym (accepted-one i) ∙ ap accepts (a .answer-is) ∙ ap (λ (o : Outcome). accepts (answer rows o)) p in absurd (omega (arith, z))
+-- On acceptance the answer holds blocks, payments and total cents, and the table each payment, of which no pair but the ultimate debtor's is absent.
+pub record Filled (s before after : List ℕ) (b p c : ℕ) : Type 0 where
+  pub root : Element
+  pub outcome-is : outcome rows (length before) s ≡ accepted-with root
+  pub blocks-are : b ≡ length (blocks root)
+  pub payments-are : p ≡ length (payments root)
+  pub cents-are : c ≡ total root
+  pub table-is : after ≡ table-after (accepted-with root) before
+  pub pairs : All PairsThere (payments root)
 
-  rules-accepted : Accepted rows s → IsAccepted v
-  unfolding verdict answer answer-of accepts
-  rules-accepted h = let b = accepts-with-table (length before) s long .1 h in one-accepted v (ap accepts (a .answer-is) ∙ ap (λ (o : Outcome). accepts (answer rows o)) (b .1))
-
-  pub accepted-exactly : IsAccepted v ↔ Accepted rows s
-  accepted-exactly = (accepted-rules, rules-accepted)
+pub accepted-fills : {s before after : List ℕ} {b p c : ℕ} → VerdictPromise s before (the.Accepted b p c) after → Filled s before after b p c
+unfolding verdict verdict-says answer-to accepted
+accepted-fills {s} {before} {after} {b} {p} {c} a =
+    let h = accepted-exactly a .0 is-accepted in
+    let r = accepts-with-table rows rows-proper (length before) s (h .0) .1 (h .1) in
+    let t = accepted-with-table rows rows-proper (length before) s (r .0) .0 (r .1) in
+    let e : accepted b p c ≡ answer-to (accepted-with (r .0)) = a .answer-is ∙ ap answer-to (r .1) in
+    record {
+      root = r .0;
+      outcome-is = r .1;
+      blocks-are = ap (λ (m : MessageAnswer). m .blocks) e;
+      payments-are = ap (λ (m : MessageAnswer). m .payments) e;
+      cents-are = ap (λ (m : MessageAnswer). m .cents) e;
+      table-is = a .table-is ∙ ap (λ (o : Outcome). table-after o before) (r .1);
+      pairs = no-other-absent rows rows-proper (r .0) (accepted-alone rows rows-proper s (r .0) .0 (t .1) .2);
+    }

@@ -2,15 +2,11 @@
 use paper::Fault;
 use paper::Verdict;
 ghost use Prim.Native.Nat.{_<_};
-ghost use Rattle.paper.specs.Rows.{rows};
-ghost use Rattle.paper.specs.Refusals.{outcome-alone};
-ghost use Rattle.parts.specs.Parts.{HandsBack};
-ghost use Rattle.reader.specs.Answers.{Answers};
-ghost use Rattle.paper.specs.Fields.{field-part};
+ghost use Rattle.reader.specs.Promises.{VerdictPromise, FieldPromise};
 
 // The verdict on a message. Where it is accepted, the lent table holds its payments; otherwise the table is as it was.
 pub fn verdict(message: &[u8], table: &mut [u32]) -> Verdict
-    ensures { λ r. ⌜ Answers (now (message .entry)) (now (table .entry)) r (now (table .exit)) ⌝ }
+    ensures { λ r. ⌜ VerdictPromise (now (message .entry)) (now (table .entry)) r (now (table .exit)) ⌝ }
 {
     if table.len() < 1024 {
         return Verdict::Refused(Fault::TableTooShort);
@@ -37,7 +33,7 @@ pub fn verdict(message: &[u8], table: &mut [u32]) -> Verdict
 
 // The text of a field, as a part of the message. Refused message, unknown payment or field, or no such element: the empty part at 0.
 pub fn field(message: &[u8], payment: usize, field: usize) -> &[u8]
-    ensures { λ r. ⌜ HandsBack (message .entry) r (field-part rows (outcome-alone rows (now (message .entry))) payment field) ⌝ }
+    ensures { λ r. ⌜ FieldPromise (message .entry) payment field r ⌝ }
 {
     let mut tree = [0u16; 54615];
     let mut order = [0u16; 208];

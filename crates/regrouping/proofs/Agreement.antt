@@ -1,29 +1,33 @@
--- The contract of `regroup` determines its answer; and demand 3 as that contract has it.
-use Prim.Native.Nat.{ℕ}
+-- The promises of `regroup` and `differing` determine their answers; and demand 3 as the promise of `regroup` has it.
+use Prim.Native.Nat.{ℕ, _<_}
 use mathlib.Core.List.{List}
 use mathlib.Core.Path.{_≡_, sym, ap, _∙_}
 use mathlib.Core.Logic.{_↔_}
+use denote.Ref.{RefT, now}
 use Rattle.paper.specs.Rows.{rows}
-use Rattle.paper.specs.Regrouping.{regrouping, Regroups}
-use Rattle.paper.specs.Answers.{regrouping-of}
+use Rattle.paper.specs.Accepted.{All}
+use Rattle.paper.specs.Regrouping.{Regroups}
+use Rattle.paper.specs.Answers.{regrouping-says}
 use Rattle.paper.specs.declared.Regrouping.{Regrouping}
 use Rattle.paper.specs.declared.Regrouping.the-variants as the
+use Rattle.acceptance.proofs.Proper.{rows-proper}
 use Rattle.answers.proofs.Agreement.{one-regrouping}
 use Rattle.pairing.proofs.Regroups.{regroups-exactly}
+use Rattle.regrouping.specs.Promises.{RegroupPromise, DifferingPromise}
 
--- the contract of `regroup`
-abbrev pub Meets : (first second file : List ℕ) → Regrouping → Type 0
-Meets first second file r = regrouping-of r ≡ regrouping rows first second file
+-- two answers that keep the promise of `regroup` are the same
+pub answers-agree : (first second file : List ℕ) (r q : Regrouping) → RegroupPromise first second file r → RegroupPromise first second file q → r ≡ q
+answers-agree first second file r q m n = one-regrouping r q (m ∙ sym n)
 
-module _ (first second file : List ℕ) (r : Regrouping) (m : Meets first second file r) where
-  -- two answers that meet it are the same
-  pub answers-agree : (q : Regrouping) → Meets first second file q → r ≡ q
-  answers-agree q n = one-regrouping r q (m ∙ sym n)
+-- two parts that keep the promise of `differing` have the same bytes and lie at the same place
+pub parts-agree : (first : List ℕ) {second a b : RefT (List ℕ)} (file : List ℕ) → DifferingPromise first second file a → DifferingPromise first second file b
+    → (now a ≡ now b) × (a .ptr .0 ≡ b .ptr .0) × (a .ptr .1 ≡ b .ptr .1)
+parts-agree first file h g = (h .bytes-are ∙ sym (g .bytes-are), h .in-the-message ∙ sym (g .in-the-message), h .at-its-place ∙ sym (g .at-its-place))
 
-  -- Demand 3: accepted exactly when the second message regroups the first by the list.
-  pub accepted-exactly : (r ≡ the.Accepted) ↔ Regroups rows first second file
-  unfolding regrouping-of
-  accepted-exactly = (
-    (λ e. regroups-exactly first second file .0 (sym m ∙ ap regrouping-of e)),
-    (λ h. one-regrouping r the.Accepted (m ∙ regroups-exactly first second file .1 h)),
-  )
+-- Demand 3: for a list of bytes, accepted exactly when the second message regroups the first by it.
+pub accepted-exactly : (first second file : List ℕ) (r : Regrouping) → RegroupPromise first second file r → All (λ b. b < 256) file
+    → (r ≡ the.Accepted) ↔ Regroups rows first second file
+unfolding regrouping-says
+accepted-exactly first second file r m h =
+    let e = regroups-exactly rows rows-proper first second file h in
+    ((λ i. e .0 (sym m ∙ ap regrouping-says i)), (λ g. one-regrouping r the.Accepted (m ∙ e .1 g)))

@@ -2,7 +2,7 @@
 use Prim.Native.Nat.{ℕ}
 use native.Mathlib.Omega.{arith}
 use mathlib.Core.List.{List, []}
-use mathlib.Core.Bool.{true, not}
+use mathlib.Core.Bool.{true}
 use mathlib.Core.Option.{Option, none, some}
 use mathlib.Core.Path.{_≡_, refl, sym, _∙_, ap, subst}
 use borrow.Author.Tests.{eq-eqb, ne-eqb}
@@ -10,14 +10,14 @@ use lib.ListN.{length, length-map}
 use lib.Dec.{eqb}
 use Rattle.paper.specs.Form.{Element}
 use Rattle.paper.specs.Rows.{rows}
-use Rattle.paper.specs.Payments.{Payment, payments, in-payment}
-use Rattle.paper.specs.Refusals.{refused-as, accepted-with, outcome-alone}
+use Rattle.paper.specs.Payments.{payments, in-payment}
+use Rattle.paper.specs.Refusals.{accepted-with, outcome-alone}
 use Rattle.paper.specs.Fields.{values-of, field-part}
 use Rattle.paper.specs.Table.{Part, part-of}
 use Rattle.parts.specs.Parts.{HandsBack}
 use denote.Ref.{RefT}
-use Rattle.paper.specs.Regrouping.{ordinals-of, pairing, of-payments, all-values, of-outcomes, regrouping, differing-part}
-use Rattle.paper.specs.Answers.{refusal-of, regrouping-of}
+use Rattle.paper.specs.Regrouping.{message-refused, answered, part-for, ordinals-of, pairing, of-payments, all-values, of-outcomes, regrouping, differing-part}
+use Rattle.paper.specs.Answers.{regrouping-says}
 use Rattle.paper.specs.declared.Fault.{Fault}
 use Rattle.paper.specs.declared.Verdict.{Verdict}
 use Rattle.paper.specs.declared.Verdict.the-variants.{Accepted, Refused}
@@ -26,11 +26,12 @@ use Rattle.paper.specs.declared.Regrouping.the-variants as regroup
 use Rattle.paper.proofs.Laws.{all-map}
 use Rattle.stages.proofs.InTurn.{refused-has}
 use Rattle.lists.specs.Lists.{how-many}
-use Rattle.moves.specs.Pairs.{InOrder, answer-of}
+use Rattle.moves.specs.Pairs.{InOrder, pairs-say}
 use Rattle.lists.specs.declared.Listed.{Listed}
 use Rattle.lists.specs.declared.Listed.the-variants.{NotOfTheForm, Ordinals}
 use Rattle.moves.specs.declared.Paired.{Paired}
 use Rattle.moves.specs.declared.Paired.the-variants as paired
+use Rattle.regrouping.specs.Promises.{RegroupPromise}
 use Rattle.stages.specs.Decided.{Placed, Decided, decided-refused, decided-accepted}
 
 -- the payments of an accepted message are in order
@@ -52,31 +53,31 @@ when-accepted {s = s} {tree} {order} {p = p} (decided-accepted {root = root} {p 
 
 -- the second message, given the first's outcome; and the first
 pub second-refused : (root : Element) (list : List ℕ) {second tree order : List ℕ} {v : Verdict} {f : Fault} → Decided second tree order v → v ≡ Refused f
-    → regrouping-of (regroup.SecondRefused f) ≡ of-outcomes rows (accepted-with root) (outcome-alone rows second) list
-unfolding regrouping-of of-outcomes
+    → regrouping-says (regroup.SecondRefused f) ≡ of-outcomes (accepted-with root) (outcome-alone rows second) list
+unfolding regrouping-says of-outcomes
 second-refused root list d e = rw (refused-has d e)
 
 pub second-accepted : (root : Element) (list : List ℕ) {second tree order : List ℕ} {v : Verdict} {b p c : ℕ} (r : Regrouping) → Decided second tree order v → v ≡ Accepted b p c
-    → ((root2 : Element) → InOrder second tree order p root2 → regrouping-of r ≡ of-payments (all-values rows root) (all-values rows root2) list)
-    → regrouping-of r ≡ of-outcomes rows (accepted-with root) (outcome-alone rows second) list
+    → ((root2 : Element) → InOrder second tree order p root2 → regrouping-says r ≡ of-payments (all-values root) (all-values root2) list)
+    → regrouping-says r ≡ of-outcomes (accepted-with root) (outcome-alone rows second) list
 unfolding of-outcomes
 second-accepted root list r d e h = when-accepted d e (λ root2 o i. rw o (h root2 i))
 
 pub first-refused : (second list : List ℕ) {first tree order : List ℕ} {v : Verdict} {f : Fault} → Decided first tree order v → v ≡ Refused f
-    → regrouping-of (regroup.FirstRefused f) ≡ regrouping rows first second list
-unfolding regrouping-of of-outcomes regrouping
+    → regrouping-says (regroup.FirstRefused f) ≡ regrouping rows first second list
+unfolding regrouping-says of-outcomes regrouping
 first-refused second list d e = rw (refused-has d e)
 
 pub first-accepted : (second list : List ℕ) {first tree order : List ℕ} {v : Verdict} {b p c : ℕ} (r : Regrouping) → Decided first tree order v → v ≡ Accepted b p c
-    → ((root1 : Element) → InOrder first tree order p root1 → regrouping-of r ≡ of-outcomes rows (accepted-with root1) (outcome-alone rows second) list)
-    → regrouping-of r ≡ regrouping rows first second list
+    → ((root1 : Element) → InOrder first tree order p root1 → regrouping-says r ≡ of-outcomes (accepted-with root1) (outcome-alone rows second) list)
+    → regrouping-says r ≡ regrouping rows first second list
 unfolding regrouping
 first-accepted second list r d e h = when-accepted d e (λ root1 o i. rw o (h root1 i))
 
 -- 15, 16, 17
-values-many : {s tree order : List ℕ} {root : Element} {n : ℕ} → InOrder s tree order n root → length (all-values rows root) ≡ n
+values-many : {s tree order : List ℕ} {root : Element} {n : ℕ} → InOrder s tree order n root → length (all-values root) ≡ n
 unfolding all-values
-values-many {root = root} i = length-map (payments rows root) (values-of rows) ∙ i .number-is
+values-many {root = root} i = length-map (payments root) values-of ∙ i .number-is
 
 list-none : (list : List ℕ) {l : Listed} → l ≡ how-many (ordinals-of list) → l ≡ NotOfTheForm → ordinals-of list ≡ none
 unfolding how-many
@@ -95,33 +96,33 @@ list-some list {l} {n} e d = go (ordinals-of list) refl
     go (some ks) f = let g : how-many (ordinals-of list) ≡ how-many (some ks) = ap how-many f in let k : length ks ≡ n = cc in (ks, f, k)
 
 module _ (list : List ℕ) {s1 tree1 order1 s2 tree2 order2 : List ℕ} {root1 root2 : Element} {n m : ℕ} (i : InOrder s1 tree1 order1 n root1) (j : InOrder s2 tree2 order2 m root2) where
-  pub numbers-differ : (n ≡ m → ⊥) → regrouping-of regroup.NumbersOfPaymentsDiffer ≡ of-payments (all-values rows root1) (all-values rows root2) list
-  unfolding of-payments regrouping-of
+  pub numbers-differ : (n ≡ m → ⊥) → regrouping-says regroup.NumbersOfPaymentsDiffer ≡ of-payments (all-values root1) (all-values root2) list
+  unfolding of-payments regrouping-says
   numbers-differ d =
-      rw (ne-eqb (length (all-values rows root1)) (length (all-values rows root2)) (λ e. d (sym (values-many i) ∙ e ∙ values-many j)))
+      rw (ne-eqb (length (all-values root1)) (length (all-values root2)) (λ e. d (sym (values-many i) ∙ e ∙ values-many j)))
 
   module _ (same : n ≡ m) {l : Listed} (read : l ≡ how-many (ordinals-of list)) where
-    as-many : eqb (length (all-values rows root1)) (length (all-values rows root2)) ≡ true
+    as-many : eqb (length (all-values root1)) (length (all-values root2)) ≡ true
     as-many = eq-eqb _ _ (values-many i ∙ same ∙ sym (values-many j))
 
-    pub not-a-list : l ≡ NotOfTheForm → regrouping-of regroup.ListNotOfTheForm ≡ of-payments (all-values rows root1) (all-values rows root2) list
-    unfolding of-payments regrouping-of
+    pub not-a-list : l ≡ NotOfTheForm → regrouping-says regroup.ListNotOfTheForm ≡ of-payments (all-values root1) (all-values root2) list
+    unfolding of-payments regrouping-says
     not-a-list e = rw (as-many, list-none list read e)
 
-    pub wrong-count : {k : ℕ} → l ≡ Ordinals k → (k ≡ n → ⊥) → regrouping-of regroup.CountNotTheNumberOfPayments ≡ of-payments (all-values rows root1) (all-values rows root2) list
-    unfolding of-payments regrouping-of
+    pub wrong-count : {k : ℕ} → l ≡ Ordinals k → (k ≡ n → ⊥) → regrouping-says regroup.CountNotTheNumberOfPayments ≡ of-payments (all-values root1) (all-values root2) list
+    unfolding of-payments regrouping-says
     wrong-count e d =
         let q = list-some list read e in
-        rw (as-many, q .1, ne-eqb (length (q .0)) (length (all-values rows root1)) (λ f. d (sym (q .2) ∙ f ∙ values-many i)))
+        rw (as-many, q .1, ne-eqb (length (q .0)) (length (all-values root1)) (λ f. d (sym (q .2) ∙ f ∙ values-many i)))
 
-    pub the-pairs : {k : ℕ} (r : Regrouping) (p : Paired) → l ≡ Ordinals k → k ≡ n → regrouping-of r ≡ answer-of p
-        → ((ks : List ℕ) → ordinals-of list ≡ some ks → length ks ≡ n → answer-of p ≡ pairing (all-values rows root1) 0 [] ks (all-values rows root2))
-        → regrouping-of r ≡ of-payments (all-values rows root1) (all-values rows root2) list
+    pub the-pairs : {k : ℕ} (r : Regrouping) (p : Paired) → l ≡ Ordinals k → k ≡ n → regrouping-says r ≡ pairs-say p
+        → ((ks : List ℕ) → ordinals-of list ≡ some ks → length ks ≡ n → pairs-say p ≡ pairing (all-values root1) 0 [] ks (all-values root2))
+        → regrouping-says r ≡ of-payments (all-values root1) (all-values root2) list
     unfolding of-payments
     the-pairs {k} r p e d f h =
         let q = list-some list read e in
         let c : length (q .0) ≡ n = q .2 ∙ d in
-        rw (as-many, q .1, eq-eqb (length (q .0)) (length (all-values rows root1)) (c ∙ sym (values-many i))) (f ∙ h (q .0) (q .1) c)
+        rw (as-many, q .1, eq-eqb (length (q .0)) (length (all-values root1)) (c ∙ sym (values-many i))) (f ∙ h (q .0) (q .1) c)
 
 pub same-order : {s tree order : List ℕ} {root : Element} {n m : ℕ} → InOrder s tree order m root → n ≡ m → InOrder s tree order n root
 same-order {s} {tree} {order} {root} i e = subst (λ (k : ℕ). InOrder s tree order k root) (sym e) i
@@ -139,24 +140,24 @@ NotTwenty (regroup.NamedBefore k) = Unit {0}
 NotTwenty (regroup.FieldsDiffer k f) = ⊥
 
 -- the differing part, by the answer
-module _ (first second list : List ℕ) {r : Regrouping} (is : regrouping-of r ≡ regrouping rows first second list) where
-  pub part-of-20 : {k field : ℕ} → r ≡ regroup.FieldsDiffer k field → differing-part rows first second list ≡ field-part rows (outcome-alone rows second) k field
-  unfolding differing-part regrouping-of
-  part-of-20 e = rw (sym is ∙ ap regrouping-of e, differing-part)
+module _ (first second list : List ℕ) {r : Regrouping} (is : RegroupPromise first second list r) where
+  pub part-of-20 : {k field : ℕ} → r ≡ regroup.FieldsDiffer k field → differing-part rows first second list ≡ field-part (outcome-alone rows second) k field
+  unfolding differing-part part-for regrouping-says answered
+  part-of-20 e = rw (sym is ∙ ap regrouping-says e)
 
   pub no-part : {answer : Regrouping} → r ≡ answer → NotTwenty answer → differing-part rows first second list ≡ part-of none
-  unfolding differing-part regrouping-of NotTwenty
+  unfolding differing-part part-for regrouping-says answered message-refused NotTwenty
   no-part {answer} e n = go answer e n
     where
       go : (a : Regrouping) → r ≡ a → NotTwenty a → differing-part rows first second list ≡ part-of none
-      go regroup.Accepted e n = rw (sym is ∙ ap regrouping-of e, differing-part)
-      go (regroup.FirstRefused f) e n = rw (sym is ∙ ap regrouping-of e, differing-part)
-      go (regroup.SecondRefused f) e n = rw (sym is ∙ ap regrouping-of e, differing-part)
-      go regroup.NumbersOfPaymentsDiffer e n = rw (sym is ∙ ap regrouping-of e, differing-part)
-      go regroup.ListNotOfTheForm e n = rw (sym is ∙ ap regrouping-of e, differing-part)
-      go regroup.CountNotTheNumberOfPayments e n = rw (sym is ∙ ap regrouping-of e, differing-part)
-      go (regroup.OrdinalTooLarge k) e n = rw (sym is ∙ ap regrouping-of e, differing-part)
-      go (regroup.NamedBefore k) e n = rw (sym is ∙ ap regrouping-of e, differing-part)
+      go regroup.Accepted e n = rw (sym is ∙ ap regrouping-says e)
+      go (regroup.FirstRefused f) e n = rw (sym is ∙ ap regrouping-says e)
+      go (regroup.SecondRefused f) e n = rw (sym is ∙ ap regrouping-says e)
+      go regroup.NumbersOfPaymentsDiffer e n = rw (sym is ∙ ap regrouping-says e)
+      go regroup.ListNotOfTheForm e n = rw (sym is ∙ ap regrouping-says e)
+      go regroup.CountNotTheNumberOfPayments e n = rw (sym is ∙ ap regrouping-says e)
+      go (regroup.OrdinalTooLarge k) e n = rw (sym is ∙ ap regrouping-says e)
+      go (regroup.NamedBefore k) e n = rw (sym is ∙ ap regrouping-says e)
       go (regroup.FieldsDiffer k f) e n = absurd n
 
 -- the empty part at 0

@@ -7,14 +7,14 @@ ghost use mathlib.Core.Path.{_≡_};
 ghost use Rattle.paper.specs.Form.{Element};
 ghost use Rattle.paper.specs.Rows.{rows};
 ghost use Rattle.paper.specs.Refusals.{accepted-with, outcome-alone};
-ghost use Rattle.paper.specs.Regrouping.{of-payments, all-values, of-outcomes, regrouping, differing-part};
-ghost use Rattle.paper.specs.Answers.{regrouping-of};
-ghost use Rattle.moves.specs.Pairs.{InOrder, answer-of};
-ghost use Rattle.parts.specs.Parts.{HandsBack};
+ghost use Rattle.paper.specs.Regrouping.{of-payments, all-values, of-outcomes};
+ghost use Rattle.paper.specs.Answers.{regrouping-says};
+ghost use Rattle.moves.specs.Pairs.{InOrder, pairs-say};
+ghost use Rattle.regrouping.specs.Promises.{RegroupPromise, DifferingPromise};
 
 // 18, 19 and 20, as the walk over the pairs says them.
 fn paired_as(paired: Paired) -> Regrouping
-    ensures { λ r. ⌜ regrouping-of r ≡ answer-of paired ⌝ }
+    ensures { λ r. ⌜ regrouping-says r ≡ pairs-say paired ⌝ }
 {
     match paired {
         Paired::Accepted => Regrouping::Accepted,
@@ -36,7 +36,7 @@ fn listed(
     many2: usize,
     list: &[u8],
 ) -> Regrouping
-    ensures { λ r. ⌜ ((root1 root2 : Element) → InOrder (now (first .entry)) (now (tree1 .entry)) (now (order1 .entry)) many1 root1 → InOrder (now (second .entry)) (now (tree2 .entry)) (now (order2 .entry)) many2 root2 → regrouping-of r ≡ of-payments (all-values rows root1) (all-values rows root2) (now (list .entry))) ⌝ }
+    ensures { λ r. ⌜ ((root1 root2 : Element) → InOrder (now (first .entry)) (now (tree1 .entry)) (now (order1 .entry)) many1 root1 → InOrder (now (second .entry)) (now (tree2 .entry)) (now (order2 .entry)) many2 root2 → regrouping-says r ≡ of-payments (all-values root1) (all-values root2) (now (list .entry))) ⌝ }
 {
     if many1 != many2 {
         return Regrouping::NumbersOfPaymentsDiffer;
@@ -62,7 +62,7 @@ fn with_second(
     second: &[u8],
     list: &[u8],
 ) -> Regrouping
-    ensures { λ r. ⌜ ((root1 : Element) → InOrder (now (first .entry)) (now (tree1 .entry)) (now (order1 .entry)) many1 root1 → regrouping-of r ≡ of-outcomes rows (accepted-with root1) (outcome-alone rows (now (second .entry))) (now (list .entry))) ⌝ }
+    ensures { λ r. ⌜ ((root1 : Element) → InOrder (now (first .entry)) (now (tree1 .entry)) (now (order1 .entry)) many1 root1 → regrouping-says r ≡ of-outcomes (accepted-with root1) (outcome-alone rows (now (second .entry))) (now (list .entry))) ⌝ }
 {
     let mut tree2 = [0u16; 54615];
     let mut order2 = [0u16; 208];
@@ -91,7 +91,7 @@ fn with_second(
 
 // The answer to a regrouping: the first message's refusal, the second's, 15, 16, 17, and for each k 18, 19, 20.
 pub fn regroup(first: &[u8], second: &[u8], list: &[u8]) -> Regrouping
-    ensures { λ r. ⌜ regrouping-of r ≡ regrouping rows (now (first .entry)) (now (second .entry)) (now (list .entry)) ⌝ }
+    ensures { λ r. ⌜ RegroupPromise (now (first .entry)) (now (second .entry)) (now (list .entry)) r ⌝ }
 {
     let mut tree1 = [0u16; 54615];
     let mut order1 = [0u16; 208];
@@ -108,7 +108,7 @@ pub fn regroup(first: &[u8], second: &[u8], list: &[u8]) -> Regrouping
 
 // For 20 the text of the differing field as the second message has it, a part of the second message; otherwise the empty part at 0 of the second.
 pub fn differing<'a>(first: &[u8], second: &'a [u8], list: &[u8]) -> &'a [u8]
-    ensures { λ r. ⌜ HandsBack (second .entry) r (differing-part rows (now (first .entry)) (now (second .entry)) (now (list .entry))) ⌝ }
+    ensures { λ r. ⌜ DifferingPromise (now (first .entry)) (second .entry) (now (list .entry)) r ⌝ }
 {
     let answer = regroup(first, second, list);
     match answer {

@@ -7,8 +7,8 @@ use mathlib.Core.Path.{_≡_, refl, sym, ap, _∙_, subst}
 use native.Mathlib.Omega.{arith}
 use Rattle.paper.specs.Bytes.{same}
 use Rattle.paper.specs.Form.{Head, Element, Elements, []ᵉ, _∷ᵉ_}
-use Rattle.paper.specs.Rows.{Row, row-of, head-of}
-use Rattle.paper.specs.Payments.{Payment, listed, children, named, all-of, follow, in-payment, in-block, inherited, either-of}
+use Rattle.paper.specs.Rows.{head-of, name}
+use Rattle.paper.specs.Payments.{listed, children, all-named, all-of, follow, either-of}
 use Rattle.paper.specs.Payments.{child as child-row}
 use Rattle.tree.specs.Laid.{Entry, Laid, LaidAll, laid-text, laid-elements, laid-none, laid-more}
 use Rattle.tree.proofs.Laws.{Cell, next-cell, entry-of}
@@ -17,45 +17,37 @@ use Rattle.routes.specs.declared.Found.{Found}
 use Rattle.routes.specs.declared.Found.the-variants.{At, Nothing}
 
 -- rows by their names
-module _ (table : List Row) where
-  pub named-is : (parent k : ℕ) (ts : List Element) → named table parent k ts ≡ with-name (row-of table parent k .name) ts
-  unfolding named with-name
-  named-is parent k [] = refl
-  named-is parent k (t ∷ ts) = rw (named-is parent k ts)
+pub named-is : (k : ℕ) (ts : List Element) → all-named k ts ≡ with-name (name k) ts
+unfolding all-named with-name
+named-is k [] = refl
+named-is k (t ∷ ts) = rw (named-is k ts)
 
-  pub all-is : (parent k : ℕ) (t : Element) → all-of table parent k t ≡ with-name (row-of table parent k .name) (children t)
-  unfolding all-of
-  all-is parent k t = named-is parent k (children t)
+pub all-is : (k : ℕ) (t : Element) → all-of k t ≡ with-name (name k) (children t)
+unfolding all-of
+all-is k t = named-is k (children t)
 
-  pub child-is : (parent k : ℕ) (t : Element) → child-row table parent k t ≡ child-named (row-of table parent k .name) t
-  unfolding child-row child-named first-of
-  child-is parent k t = go (all-of table parent k t) refl ∙ ap first-of (all-is parent k t)
-    where
-      go : (ts : List Element) → all-of table parent k t ≡ ts →
-          _≡_ {A = Option Element} (elim ts [ [] ↦ none | u ∷ us ↦ some u ]) (first-of ts)
-      go [] e = refl
-      go (u ∷ us) e = refl
+pub child-is : (k : ℕ) (t : Element) → child-row k t ≡ child-named (name k) t
+unfolding child-row child-named first-of
+child-is k t = go (all-of k t) refl ∙ ap first-of (all-is k t)
+  where
+    go : (ts : List Element) → all-of k t ≡ ts → _≡_ {A = Option Element} (elim ts [ [] ↦ none | u ∷ us ↦ some u ]) (first-of ts)
+    go [] e = refl
+    go (u ∷ us) e = refl
 
 pub along-none : (names : List (List ℕ)) → along names none ≡ none
 unfolding along child-under
 along-none [] = refl
-along-none (name ∷ names) = along-none names
+along-none (w ∷ names) = along-none names
 
-module _ (table : List Row) where
-  pub follow-is : (parent : ℕ) (route : List ℕ) (t : Element) → follow table parent route t ≡ along (names-of table parent route) (some t)
-  unfolding follow along names-of child-under
-  follow-is parent [] t = refl
-  follow-is parent (k ∷ ks) t =
-      go (child-row table parent k t) (λ u. follow-is k ks u) ∙ ap (along (names-of table k ks)) (child-is table parent k t)
-    where
-      go : (o : Option Element) → ((u : Element) → follow table k ks u ≡ along (names-of table k ks) (some u)) →
-          _≡_ {A = Option Element} (elim o [ none ↦ none | some u ↦ follow table k ks u ]) (along (names-of table k ks) o)
-      go none f = sym (along-none (names-of table k ks))
-      go (some u) f = f u
-
-  pub inherited-is : (route : List ℕ) (p : Payment) → inherited table route p ≡ either-of (in-payment table route p) (in-block table route p)
-  unfolding inherited
-  inherited-is route p = refl
+pub follow-is : (route : List ℕ) (t : Element) → follow route t ≡ along (names-of route) (some t)
+unfolding follow along names-of child-under
+follow-is [] t = refl
+follow-is (k ∷ ks) t = go (child-row k t) (λ u. follow-is ks u) ∙ ap (along (names-of ks)) (child-is k t)
+  where
+    go : (o : Option Element) → ((u : Element) → follow ks u ≡ along (names-of ks) (some u)) →
+        _≡_ {A = Option Element} (elim o [ none ↦ none | some u ↦ follow ks u ]) (along (names-of ks) o)
+    go none f = sym (along-none (names-of ks))
+    go (some u) f = f u
 
 -- one element of several, by its name
 pub with-takes : (name : List ℕ) (t : Element) (ts : Elements) → same (head-of t .name) name ≡ true

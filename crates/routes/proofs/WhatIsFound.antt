@@ -5,8 +5,8 @@ use mathlib.Core.List.{List, [], _∷_}
 use mathlib.Core.Option.{Option, none, some}
 use mathlib.Core.Path.{_≡_, refl, sym, ap, _∙_, subst}
 use Rattle.paper.specs.Form.{Element}
-use Rattle.paper.specs.Rows.{Row, row-of}
-use Rattle.paper.specs.Payments.{Payment, follow, in-payment, in-block}
+use Rattle.paper.specs.Rows.{name}
+use Rattle.paper.specs.Payments.{Payment, in-payment, in-block}
 use Rattle.tree.specs.Laid.{Laid}
 use Rattle.routes.specs.declared.Found.{Found}
 use Rattle.routes.specs.declared.Found.the-variants.{At, Nothing}
@@ -28,11 +28,11 @@ found-some found-nothing e = let z : _≡_ {A = ℕ} 0 1 = cc in absurd (omega (
 found-some {s} {tree} {i = i} (found-at {t = t} {i = j} {next = n} l) e =
     let f : j ≡ i = cc in record { it = t; next = n; is-it = refl; laid = subst (λ (k : ℕ). Laid s tree t k n) f l }
 
-module _ (table : List Row) (k : ℕ) (name : List ℕ) where
-  pub own-row : (p : Payment) → name ≡ row-of table 37 k .name → in-payment table (k ∷ []) p ≡ child-named name (p .own)
-  unfolding in-payment along child-under names-of
-  own-row p e = follow-is table 37 (k ∷ []) (p .own) ∙ ap (λ (n : List ℕ). child-named n (p .own)) (sym e)
+-- a row of a payment and of its block, by its name
+pub own-row : (k : ℕ) (w : List ℕ) (p : Payment) → w ≡ name k → in-payment (k ∷ []) p ≡ child-named w (p .own)
+unfolding in-payment along child-under names-of
+own-row k w p e = follow-is (k ∷ []) (p .own) ∙ ap (λ (n : List ℕ). child-named n (p .own)) (sym e)
 
-  pub block-row : (p : Payment) → name ≡ row-of table 10 k .name → in-block table (k ∷ []) p ≡ child-named name (p .block)
-  unfolding in-block along child-under names-of
-  block-row p e = follow-is table 10 (k ∷ []) (p .block) ∙ ap (λ (n : List ℕ). child-named n (p .block)) (sym e)
+pub block-row : (k : ℕ) (w : List ℕ) (p : Payment) → w ≡ name k → in-block (k ∷ []) p ≡ child-named w (p .block)
+unfolding in-block along child-under names-of
+block-row k w p e = follow-is (k ∷ []) (p .block) ∙ ap (λ (n : List ℕ). child-named n (p .block)) (sym e)

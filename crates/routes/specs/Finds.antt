@@ -5,7 +5,7 @@ use mathlib.Core.Option.{Option, none, some}
 use mathlib.Core.Path.{_≡_}
 use Rattle.paper.specs.Bytes.{if_then_else_, same}
 use Rattle.paper.specs.Form.{Element, Elements}
-use Rattle.paper.specs.Rows.{Row, row-of, head-of}
+use Rattle.paper.specs.Rows.{head-of, name}
 use Rattle.paper.specs.Payments.{children, listed, either-of}
 use Rattle.tree.specs.Laid.{cell-of, Laid, LaidAll}
 use Rattle.routes.specs.declared.Found.{Found}
@@ -44,9 +44,9 @@ along [] o = o
 along (name ∷ names) o = along names (child-under name o)
 
 -- the names of a route of rows
-unfoldable pub names-of : List Row → (parent : ℕ) → (route : List ℕ) → List (List ℕ)
-names-of table parent [] = []
-names-of table parent (k ∷ ks) = row-of table parent k .name ∷ names-of table k ks
+unfoldable pub names-of : (route : List ℕ) → List (List ℕ)
+names-of [] = []
+names-of (k ∷ ks) = name k ∷ names-of ks
 
 -- Those of a name among elements that are laid out up to `stop`: none is left, or the first stands at i, and more elements are laid out after it.
 pub data Next (s tree name : List ℕ) : List Element → (i stop : ℕ) → Type 0 where

@@ -1,4 +1,4 @@
--- Numbers stand for a profile where a computed test says so; and document 01's do.
+-- Numbers stand for a profile where a computed test says so; and those of the rows do.
 use Prim.Native.Nat.{ℕ, zero, suc, _+_, _*_, _-_, _<_, _≤_}
 use mathlib.Core.List.{List, [], _∷_, map}
 use mathlib.Core.Bool.{Bool, true, false}
@@ -6,9 +6,9 @@ use mathlib.Core.Path.{_≡_, refl, ap, _∙_}
 use native.Mathlib.Omega.{arith}
 use lib.Dec.{eqb, ltb}
 use lib.ListN.{length, List·getD-eq-default}
-use borrow.Author.Tests.{eq-eqb, eqb-true, eqb-false, ltb-true, ltb-false}
-use Rattle.paper.specs.Bytes.{if_then_else_, bytes}
-use Rattle.paper.specs.Rows.{Row, row-of, rows, leaf, group, group-under}
+use borrow.Author.Tests.{eqb-true, eqb-false, ltb-true, ltb-false}
+use Rattle.paper.specs.Bytes.{bytes}
+use Rattle.paper.specs.Rows.{Row, row-of, rows, name-in, name, leaf, group, group-under}
 use Rattle.paper.specs.Form.{Element}
 use Rattle.paper.specs.Refusals.{walk, rows-refusal, values-refusal}
 use Rattle.paper.specs.Answers.{refusal-found}
@@ -77,29 +77,29 @@ module _ (profile : List Row) (names numbers places : List ℕ) (entries : ℕ) 
             rw there at (agree (λ j. in-table e (start e + j)) (λ j. in-numbers (start e + j)) (many e) inner (p - start e) (omega arith))
         go false q = absurd (omega (arith, no-entry e few (ltb-false e entries q)))
 
-  -- the name of entry e if it is of row 42
-  amount-name : ℕ → List ℕ
-  amount-name e = if eqb (of-entry numbers e 0) 42 then name-at names numbers e else bytes "InstdAmt"
+  -- the name of entry e, and of its row
+  Names-agree : Type 0
+  Names-agree = map (λ e. name (of-entry numbers e 0)) (upto entries) ≡ map (λ e. name-at names numbers e) (upto entries)
 
-  Amounts-agree : Type 0
-  Amounts-agree = map amount-name (upto entries) ≡ map (λ _. bytes "InstdAmt") (upto entries)
-
-  amounts-agree : length numbers ≤ entries * 7 → Amounts-agree → (e : ℕ) → of-entry numbers e 0 ≡ 42 → name-at names numbers e ≡ bytes "InstdAmt"
-  unfolding Amounts-agree amount-name
-  amounts-agree few test e is = go (ltb e entries) refl
+  names-agree : length numbers ≤ entries * 7 → Names-agree → (e : ℕ) → name (of-entry numbers e 0) ≡ name-at names numbers e
+  unfolding Names-agree name name-in rows leaf group group-under
+  names-agree few test e = go (ltb e entries) refl
     where
-      go : (b : Bool) → ltb e entries ≡ b → name-at names numbers e ≡ bytes "InstdAmt"
-      go true q = rw (eq-eqb _ _ is) at (agree amount-name (λ _. bytes "InstdAmt") entries test e (ltb-true e entries q))
+      go : (b : Bool) → ltb e entries ≡ b → name (of-entry numbers e 0) ≡ name-at names numbers e
+      go true q = agree (λ d. name (of-entry numbers d 0)) (λ d. name-at names numbers d) entries test e (ltb-true e entries q)
       go false q =
-          let beyond : of-entry numbers e 0 ≡ 0 = List·getD-eq-default numbers 0 {n = e * 7 + 0} (omega (arith, ltb-false e entries q)) in
-          absurd (omega arith)
+          let past : entries ≤ e = ltb-false e entries q in
+          let zeroth : of-entry numbers e 0 ≡ 0 = List·getD-eq-default numbers 0 {n = e * 7 + 0} (omega arith) in
+          let second : of-entry numbers e 2 ≡ 0 = List·getD-eq-default numbers 0 {n = e * 7 + 2} (omega arith) in
+          let third : of-entry numbers e 3 ≡ 0 = List·getD-eq-default numbers 0 {n = e * 7 + 3} (omega arith) in
+          rw (zeroth, second, third)
 
   record Tested : Type 0 where
     few : length numbers ≤ entries * 7
     root-agrees : row-at names numbers places 0 ≡ row-of profile 0 1
     first-agree : Rows-agree 1
     second-agree : Rows-agree 2
-    names-agree : Amounts-agree
+    named-agree : Names-agree
 
   by-test : Tested → Stands profile names numbers places
   by-test t =
@@ -107,10 +107,10 @@ module _ (profile : List Row) (names numbers places : List ℕ) (entries : ℕ) 
         root-is = t .root-agrees;
         first-is = rows-agree 1 (t .few) (t .first-agree);
         second-is = rows-agree 2 (t .few) (t .second-agree);
-        amount-is = amounts-agree (t .few) (t .names-agree);
+        named = names-agree (t .few) (t .named-agree);
       }
 
--- The numbers of document 01's rows.
+-- The numbers of the rows.
 unfoldable pub row-names : List ℕ
 row-names = bytes "DocumentCstmrCdtTrfInitnGrpHdrMsgIdCreDtTmNbOfTxsCtrlSumInitgPtyNmPmtInfPmtInfIdPmtMtdBtchBookgPmtTpInfInstrPrtySvcLvlCdCtgyPurpReqdExctnDtDtDbtrDbtrAcctIdIBANDbtrAgtFinInstnIdBICFIOthrUltmtDbtrChrgBrCdtTrfTxInfPmtIdInstrIdEndToEndIdAmtInstdAmtCdtrAgtCdtrCdtrAcctUltmtCdtrPurpRmtInfUstrdStrdCdtrRefInfTpCdOrPrtryIssrRef"
 
@@ -207,13 +207,13 @@ row-places =
     0 ∷ 18 ∷ 18 ∷ []
 
 tested : Tested rows row-names row-numbers row-places 56
-unfolding Rows-agree Amounts-agree amount-name upto row-names row-numbers row-places row-of rows leaf group group-under bytes row-at holds-at places-between places-from place-at of-kind
-tested = record { few = omega arith; root-agrees = refl; first-agree = refl; second-agree = refl; names-agree = refl }
+unfolding Rows-agree Names-agree name name-in upto row-names row-numbers row-places row-of rows leaf group group-under bytes row-at holds-at places-between places-from place-at of-kind
+tested = record { few = omega arith; root-agrees = refl; first-agree = refl; second-agree = refl; named-agree = refl }
 
-pub document-01 : Stands rows row-names row-numbers row-places
-document-01 = by-test rows row-names row-numbers row-places 56 tested
+pub rules-rows : Stands rows row-names row-numbers row-places
+rules-rows = by-test rows row-names row-numbers row-places 56 tested
 
--- the walk over document 01's rows from the root
+-- the walk over the rows from the root
 from-root : (judging : Bool) (root : Element) → walk rows (judgement judging) root 0 (row-of rows 0 1) ≡ refusal-by judging rows root
 unfolding judgement refusal-by rows-refusal values-refusal
 from-root true root = refl
@@ -226,4 +226,4 @@ not-an-amount e = absurd (omega arith)
 pub whole-walk : (s tree : List ℕ) (judging : Bool) (f : Finding) → Walks s tree row-names row-numbers row-places judging 0 0 0 f
     → (root : Element) (next : ℕ) → Laid s tree root 0 next → refusal-found f ≡ refusal-by judging rows root
 whole-walk s tree judging f w root next l =
-    w rows document-01 root next l not-an-amount ∙ ap (λ (r : Row). walk rows (judgement judging) root 0 r) (document-01 .root-is) ∙ from-root judging root
+    w rows rules-rows root next l not-an-amount ∙ ap (λ (r : Row). walk rows (judgement judging) root 0 r) (rules-rows .root-is) ∙ from-root judging root

@@ -8,8 +8,8 @@ use native.Mathlib.Omega.{arith}
 use borrow.Author.Tests.{eq-eqb, ne-eqb}
 use Rattle.paper.specs.Bytes.{bytes}
 use Rattle.paper.specs.Form.{Head, Element, Elements, holding-text, holding-elements, []ᵉ, _∷ᵉ_}
-use Rattle.paper.specs.Rows.{Place, Holds, text, elements, Row, row-of, head-of}
-use Rattle.paper.specs.Refusals.{Refusal, refuse, _or-else_, ends, only-white, first-at, Sought, never, early, found, seek, longest-of, walk, walk-all}
+use Rattle.paper.specs.Rows.{name, name-in, rows as the-rows, leaf, group, group-under, Place, Holds, text, elements, Row, row-of, head-of, longest-of}
+use Rattle.paper.specs.Refusals.{Refusal, refuse, _or-else_, ends, only-white, first-at, Sought, never, early, found, seek, Left, from-here, walk, walk-all}
 use Rattle.paper.specs.Answers.{refusal-found}
 use Rattle.paper.specs.declared.Finding.{Finding}
 use Rattle.paper.specs.declared.Finding.the-variants.{Nothing, Refused}
@@ -73,14 +73,14 @@ module _ (profile : List Row) (judge : (parent : ℕ) → Row → Head → List 
       ap (λ (o : Holds). elim o as (λ _. Option Refusal) [ text longest ↦ judge parent r h w | elements places ↦ only-white (r .row) places h w ]) e
 
   module _ (ts : Elements) where
-    pub walk-group : (ps : List Place) → r .holds ≡ elements ps → walk profile judge (holding-elements h ts) parent r ≡ walk-all profile judge ts (r .row) ps (h .close)
+    pub walk-group : (ps : List Place) → r .holds ≡ elements ps → walk profile judge (holding-elements h ts) parent r ≡ walk-all profile judge ts (r .row) (from-here ps) (h .close)
     unfolding walk
     walk-group ps e =
         ap
         (λ (o : Holds).
         elim o as (λ _. Option Refusal) [
           | text longest ↦ refuse 3 (r .row) (first-at ts (h .start))
-          | elements places ↦ walk-all profile judge ts (r .row) places (h .close)
+          | elements places ↦ walk-all profile judge ts (r .row) (from-here places) (h .close)
         ]) e
 
     pub walk-in-leaf : (n : ℕ) → r .holds ≡ text n → walk profile judge (holding-elements h ts) parent r ≡ refuse 3 (r .row) (first-at ts (h .start))
@@ -90,11 +90,11 @@ module _ (profile : List Row) (judge : (parent : ℕ) → Row → Head → List 
         (λ (o : Holds).
         elim o as (λ _. Option Refusal) [
           | text longest ↦ refuse 3 (r .row) (first-at ts (h .start))
-          | elements places ↦ walk-all profile judge ts (r .row) places (h .close)
+          | elements places ↦ walk-all profile judge ts (r .row) (from-here places) (h .close)
         ]) e
 
 -- one child by what comes of it
-module _ (profile : List Row) (judge : (parent : ℕ) → Row → Head → List ℕ → Option Refusal) (t : Element) (ts : Elements) (row : ℕ) (left : List Place) (close : ℕ) where
+module _ (profile : List Row) (judge : (parent : ℕ) → Row → Head → List ℕ → Option Refusal) (t : Element) (ts : Elements) (row : ℕ) (left : Left) (close : ℕ) where
   abbrev after : Sought → Option Refusal
   after q =
       elim q as (λ _. Option Refusal) [
@@ -103,7 +103,7 @@ module _ (profile : List Row) (judge : (parent : ℕ) → Row → Head → List 
         | found k rest ↦ walk profile judge t row (row-of profile row k) or-else walk-all profile judge ts row rest close
       ]
 
-  child-step : {q : Sought} → seek profile row left (head-of t .name) ≡ q → walk-all profile judge (t ∷ᵉ ts) row left close ≡ after q
+  child-step : {q : Sought} → seek left (head-of t .name) ≡ q → walk-all profile judge (t ∷ᵉ ts) row left close ≡ after q
   unfolding walk
   child-step e = ap (λ (q : Sought). after q) e
 
@@ -114,7 +114,7 @@ pub record Remaining (profile : List Row) (s tree rows places : List ℕ) (judgi
   pub from-first : first ≤ place
   pub seen-inside : seen ≡ true → place < to
   pub goes-on :
-      walk-all profile (judgement judging) ts row (places-between rows places first to) (h .close) ≡
+      walk-all profile (judgement judging) ts row (from-here (places-between rows places first to)) (h .close) ≡
       walk-all profile (judgement judging) rest row (places-left rows places place seen to) (h .close)
 
 pub all-remain : (profile : List Row) {s tree : List ℕ} (rows places : List ℕ) (judging : Bool) (row first to : ℕ) (h : Head) (ts : Elements) {next child : ℕ}
@@ -127,11 +127,11 @@ module _ (rows : List ℕ) (e : ℕ) {row first to : ℕ} (row-is : row ≡ of-e
   pub resolved : {profile : List Row} {names places : List ℕ} → Stands profile names rows places → {place : ℕ} → first ≤ place
       → ResolvedBetween profile names rows places row place to
   resolved st h k l m =
-      rw row-is (record { first-is = st .first-is e k (omega arith) (omega arith); second-is = st .second-is e k (omega arith) (omega arith) })
+      rw row-is (record { first-is = st .first-is e k (omega arith) (omega arith); second-is = st .second-is e k (omega arith) (omega arith); named = st .named })
 
   pub as-read : (profile : List Row) (judge : (parent : ℕ) → Row → Head → List ℕ → Option Refusal) (places : List ℕ) (ts : Elements) (close : ℕ) {o : Option Refusal}
-      → o ≡ walk-all profile judge ts row (places-between rows places first to) close
-      → o ≡ walk-all profile judge ts (of-entry rows e 0) (places-between rows places (of-entry rows e 5) (of-entry rows e 6)) close
+      → o ≡ walk-all profile judge ts row (from-here (places-between rows places first to)) close
+      → o ≡ walk-all profile judge ts (of-entry rows e 0) (from-here (places-between rows places (of-entry rows e 5) (of-entry rows e 6))) close
   as-read profile judge places ts close w = rw (row-is, first-is, to-is) at w
 
 module _ {profile : List Row} {s tree rows places : List ℕ} {judging : Bool} {row first to : ℕ} {h : Head} {ts : Elements} {next child place : ℕ} {seen : Bool}
@@ -145,8 +145,8 @@ module _ {profile : List Row} {s tree rows places : List ℕ} {judging : Bool} {
   pub child-after : {after : ℕ} → Cell tree child 4 after → child < after
   child-after c = omega (arith, next-cell child-entry c, child-entry .after-it)
 
-  with-it : {q : Sought} → seek profile row (places-left rows places place seen to) (head-of (it .one) .name) ≡ q
-      → walk-all profile (judgement judging) ts row (places-between rows places first to) (h .close)
+  with-it : {q : Sought} → seek (places-left rows places place seen to) (head-of (it .one) .name) ≡ q
+      → walk-all profile (judgement judging) ts row (from-here (places-between rows places first to)) (h .close)
       ≡ after profile (judgement judging) (it .one) (it .others) row (places-left rows places place seen to) (h .close) q
   with-it e =
       left .goes-on ∙ ap (λ (us : Elements). walk-all profile (judgement judging) us row (places-left rows places place seen to) (h .close)) (it .are) ∙
@@ -154,12 +154,12 @@ module _ {profile : List Row} {s tree rows places : List ℕ} {judging : Bool} {
 
   module _ (names : List ℕ) (q : Sought′) (seeks : Seeks profile names rows places row (head-of (it .one) .name) (places-left rows places place seen to) place to q) where
     pub child-never : {at : ℕ} → q ≡ sought.Never → Cell tree child 0 at
-        → refuse 3 row at ≡ walk-all profile (judgement judging) ts row (places-between rows places first to) (h .close)
+        → refuse 3 row at ≡ walk-all profile (judgement judging) ts row (from-here (places-between rows places first to)) (h .close)
     unfolding Seeks
     child-never e c = rw (at-cell child-entry c) (sym (with-it (rw e at seeks)))
 
     pub child-early : {at k : ℕ} → q ≡ sought.Early k → Cell tree child 0 at
-        → refuse 4 k at ≡ walk-all profile (judgement judging) ts row (places-between rows places first to) (h .close)
+        → refuse 4 k at ≡ walk-all profile (judgement judging) ts row (from-here (places-between rows places first to)) (h .close)
     unfolding Seeks
     child-early e c = rw (at-cell child-entry c) (sym (with-it (rw e at seeks)))
 
@@ -176,11 +176,11 @@ module _ {profile : List Row} {s tree rows places : List ℕ} {judging : Bool} {
       place-inside = there .1
 
       pub amount-named : Stands profile names rows places → of-entry rows d 0 ≡ 42 → head-of (it .one) .name ≡ bytes "InstdAmt"
-      unfolding Seeks
-      amount-named st k = there .2 .name-is ∙ st .amount-is d k
+      unfolding Seeks name name-in the-rows leaf group group-under bytes
+      amount-named st k = there .2 .name-is ∙ sym (st .named d) ∙ ap name k
 
       below : (f : Finding) → refusal-found f ≡ walk profile (judgement judging) (it .one) row (row-at names rows places d)
-          → walk-all profile (judgement judging) ts row (places-between rows places first to) (h .close)
+          → walk-all profile (judgement judging) ts row (from-here (places-between rows places first to)) (h .close)
           ≡ refusal-found f or-else walk-all profile (judgement judging) (it .others) row (places-left rows places p m to) (h .close)
       unfolding Seeks
       below f w =
@@ -191,7 +191,7 @@ module _ {profile : List Row} {s tree rows places : List ℕ} {judging : Bool} {
 
       module _ {f : Finding} (w : refusal-found f ≡ walk profile (judgement judging) (it .one) row (row-at names rows places d)) where
         pub child-refused : {fault : Fault} → f ≡ Refused fault
-            → refusal-found (Refused fault) ≡ walk-all profile (judgement judging) ts row (places-between rows places first to) (h .close)
+            → refusal-found (Refused fault) ≡ walk-all profile (judgement judging) ts row (from-here (places-between rows places first to)) (h .close)
         unfolding refusal-found _or-else_
         child-refused g = sym (below f w ∙ rw g)
 
@@ -210,7 +210,7 @@ module _ {profile : List Row} {s tree rows places : List ℕ} {judging : Bool} {
 pub none-remain : {profile : List Row} {s tree : List ℕ} {rows places : List ℕ} {judging : Bool} {row first to : ℕ} {h : Head} {ts : Elements} {next child place : ℕ} {seen : Bool}
     → Remaining profile s tree rows places judging row first to h ts next child place seen → next ≤ child → {close : ℕ} → close ≡ h .close
     → {o : Option Refusal} → o ≡ ends (places-left rows places place seen to) close
-    → o ≡ walk-all profile (judgement judging) ts row (places-between rows places first to) (h .close)
+    → o ≡ walk-all profile (judgement judging) ts row (from-here (places-between rows places first to)) (h .close)
 unfolding walk
 none-remain {judging = judging} left past c e =
     e ∙ rw c (sym (left .goes-on ∙ rw (no-sibling (left .laid) past)))
@@ -243,7 +243,7 @@ module _ (profile : List Row) (s tree names rows places : List ℕ) (judging : B
 
   pub elements-in-group : {t : Element} {next : ℕ} (f : Finding) → i + 1 < following → longest ≡ 0
       → ((h : Head) (n : ℕ) → Entry s tree i h n → (ts : Elements) → LaidAll s tree ts (i + 1) n → refusal-found f ≡
-      walk-all profile (judgement judging) ts (of-entry rows e 0) (places-between rows places (of-entry rows e 5) (of-entry rows e 6)) (h .close))
+      walk-all profile (judgement judging) ts (of-entry rows e 0) (from-here (places-between rows places (of-entry rows e 5) (of-entry rows e 6))) (h .close))
       → Laid s tree t i next → refusal-found f ≡ walk profile (judgement judging) t parent (row-at names rows places e)
   unfolding row-at
   elements-in-group f many zero-long g (laid-text entry n w-is) = absurd (omega (arith, next-cell entry following-is))

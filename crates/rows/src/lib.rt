@@ -5,13 +5,9 @@ mod profile;
 use paper::Fault;
 use paper::Finding;
 use places::Sought;
-ghost use mathlib.Core.Path.{_≡_};
-ghost use Prim.Native.Nat.{ℕ, _+_, _<_};
-ghost use Rattle.paper.specs.Form.{Element};
+ghost use Prim.Native.Nat.{_+_, _<_};
 ghost use Rattle.paper.specs.Rows.{rows};
-ghost use Rattle.paper.specs.Answers.{refusal-found};
-ghost use Rattle.tree.specs.Laid.{Laid};
-ghost use Rattle.rows.specs.Walk.{refusal-by, Walks, WalksAll};
+ghost use Rattle.rows.specs.Walk.{WalkPromise, Walks, WalksAll};
 
 // Element i as entry e, under a parent's row.
 fn element(
@@ -107,9 +103,9 @@ fn children(
     places::ends_further(rows, places, place, further, to, tree::cell(tree, i, 3))
 }
 
-// The walk over document 01's rows, from the root: 3 and 4, or, where it is judging, 6 to 8 as well.
+// The walk over the rows, from the root: 3 and 4, or, where it is judging, 6 to 8 as well.
 pub fn check(s: &[u8], tree: &[u16], judging: bool) -> Finding
-    ensures { λ r. ⌜ ((root : Element) (next : ℕ) → Laid (now (s .entry)) (now (tree .entry)) root 0 next → refusal-found r ≡ refusal-by judging rows root) ⌝ }
+    ensures { λ r. ⌜ WalkPromise (now (s .entry)) (now (tree .entry)) judging r ⌝ }
 {
     element(
         s,

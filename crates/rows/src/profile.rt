@@ -1,4 +1,4 @@
-// The rows of document 01 as numbers, laid out as specs/Numbers.antt of the crate `places` says.
+// The rows as numbers, laid out as specs/Numbers.antt of the crate `places` says.
 
 // Each name once, in the order of the rows.
 pub const NAMES: [u8; 319] =

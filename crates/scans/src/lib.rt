@@ -3,7 +3,7 @@ ghost use mathlib.Core.Path.{_≡_};
 ghost use mathlib.Core.Bool.{false};
 ghost use Prim.Native.Nat.{ℕ, _≤_, _<_};
 ghost use lib.ListN.{length, getD};
-ghost use Rattle.paper.specs.Bytes.{bytes, letter-or-digit, same};
+ghost use Rattle.paper.specs.Bytes.{bytes, letter-or-digit};
 ghost use Rattle.paper.specs.Form.{end-tag};
 ghost use Rattle.paper.specs.Computed.Reading.{naming};
 ghost use Rattle.scans.specs.Scans.{Word, Opened, White, Name, Text, CapitalAt, Capitals, opens-currency};

@@ -3,14 +3,14 @@ use Prim.Native.Nat.{ℕ, _≤_, _<_}
 use native.Mathlib.Omega.{arith}
 use mathlib.Core.List.{List}
 use mathlib.Core.Option.{Option, none, some}
-use mathlib.Core.Path.{_≡_, refl, sym, _∙_, ap, subst}
+use mathlib.Core.Path.{_≡_, sym, _∙_, ap, subst}
 use borrow.Author.Tests.{le-ltb}
 use lib.ListN.{length}
 use Rattle.paper.specs.Form.{Element}
 use Rattle.paper.specs.Computed.Reading.{read, root-is}
 use Rattle.paper.specs.Rows.{rows}
 use Rattle.paper.specs.Payments.{blocks, payments, total}
-use Rattle.paper.specs.Refusals.{Refusal, refuse, _or-else_, size-refusal, largest-message, refused-as, accepted-with, unless-refused, of-reading, outcome-alone, tree-refusal, rows-refusal, limits-refusal, values-refusal, usage-refusal, ids-refusal, total-refusal, counts-refusal}
+use Rattle.paper.specs.Refusals.{Refusal, refuse, _or-else_, size-refusal, refused-as, accepted-with, unless-refused, of-reading, outcome-alone, tree-refusal, rows-refusal, limits-refusal, values-refusal, usage-refusal, ids-refusal, total-refusal, counts-refusal}
 use Rattle.paper.specs.Answers.{refusal-of, numbered, refusal-found}
 use Rattle.paper.specs.declared.Fault.{Fault}
 use Rattle.paper.specs.declared.Fault.the-variants.{TooMany, TotalTooLarge}
@@ -28,11 +28,11 @@ use Rattle.totals.specs.declared.Total.the-variants as totalled
 use Rattle.shape.specs.Shaped.{Shaped, not-shaped, is-shaped}
 use Rattle.stages.specs.Decided.{Passes, refuses, accepts, Decided, decided-refused, decided-accepted}
 use Rattle.stages.proofs.Readable.{readable}
-use Rattle.stages.proofs.OneWalk.{rows-first}
+use Rattle.acceptance.proofs.OneWalk.{rows-first}
 use Rattle.stages.proofs.Fits.{fits}
 
 of-the-form : (s : List ℕ) {root : Element} → length s ≤ 32768 → read s ≡ root-is root → outcome-alone rows s ≡ unless-refused (tree-refusal rows root) (accepted-with root)
-unfolding outcome-alone size-refusal largest-message refuse unless-refused of-reading
+unfolding outcome-alone size-refusal refuse unless-refused of-reading
 of-the-form s h e = rw (le-ltb 32768 (length s) h, e)
 
 -- a finding that refuses, and one that does not
@@ -57,27 +57,27 @@ module _ {s tree order : List ℕ} {root : Element} {f : Finding} (a b : Option 
   later-passes d h = rw (found-none is d) h
 
 -- 21, then 12 and 13
-total-answers : {root : Element} {t : Total} {offset : ℕ} → Totals root t → t ≡ totalled.TooLarge offset → total-refusal rows root ≡ some (refusal-of (TotalTooLarge offset))
+total-answers : {root : Element} {t : Total} {offset : ℕ} → Totals root t → t ≡ totalled.TooLarge offset → total-refusal root ≡ some (refusal-of (TotalTooLarge offset))
 unfolding refuse refusal-of numbered
 total-answers {root} (total-is e n) d = let z : _≡_ {A = ℕ} 0 1 = cc in absurd (omega (arith, z))
 total-answers {root} {offset = offset} (total-above {offset = o} e) d = let f : o ≡ offset = cc in e ∙ ap (λ (n : ℕ). refuse 21 7 n) f
 
-total-fits : {root : Element} {t : Total} {n : ℕ} → Totals root t → t ≡ totalled.Cents n → (total-refusal rows root ≡ none) × (n ≡ total rows root)
+total-fits : {root : Element} {t : Total} {n : ℕ} → Totals root t → t ≡ totalled.Cents n → (total-refusal root ≡ none) × (n ≡ total root)
 total-fits {root} {n = n} (total-is {n = m} e f) d = let g : m ≡ n = cc in (e, sym g ∙ sym f)
 total-fits (total-above e) d = let z : _≡_ {A = ℕ} 0 1 = cc in absurd (omega (arith, z))
 
 module _ {s tree order : List ℕ} {root : Element} {t : Total} (h : Totals root t) where
-  pub total-refused : {offset : ℕ} → t ≡ totalled.TooLarge offset → Passes s tree order root (total-refusal rows root or-else counts-refusal rows root) (Refused (TotalTooLarge offset))
+  pub total-refused : {offset : ℕ} → t ≡ totalled.TooLarge offset → Passes s tree order root (total-refusal root or-else counts-refusal root) (Refused (TotalTooLarge offset))
   unfolding _or-else_
   total-refused {offset} e = refuses {f = TotalTooLarge offset} (rw (total-answers h e))
 
-  module _ {n : ℕ} {f : Finding} (e : t ≡ totalled.Cents n) (is : refusal-found f ≡ counts-refusal rows root) where
-    pub counts-refused : {x : Fault} → f ≡ finding.Refused x → Passes s tree order root (total-refusal rows root or-else counts-refusal rows root) (Refused x)
+  module _ {n : ℕ} {f : Finding} (e : t ≡ totalled.Cents n) (is : refusal-found f ≡ counts-refusal root) where
+    pub counts-refused : {x : Fault} → f ≡ finding.Refused x → Passes s tree order root (total-refusal root or-else counts-refusal root) (Refused x)
     unfolding _or-else_
     counts-refused {x} d = refuses {f = x} (rw (total-fits h e .0) (found-refused is d))
 
-    pub all-passed : {b p : ℕ} → f ≡ finding.Nothing → Ordered s tree order root → b ≡ length (blocks rows root) → p ≡ length (payments rows root) → p ≤ 64 → b ≤ 16
-        → values-refusal rows root ≡ none → Passes s tree order root (total-refusal rows root or-else counts-refusal rows root) (Accepted b p n)
+    pub all-passed : {b p : ℕ} → f ≡ finding.Nothing → Ordered s tree order root → b ≡ length (blocks root) → p ≡ length (payments root) → p ≤ 64 → b ≤ 16
+        → values-refusal rows root ≡ none → Passes s tree order root (total-refusal root or-else counts-refusal root) (Accepted b p n)
     unfolding _or-else_
     all-passed {b} {p} d o x y few small v =
         accepts (rw (total-fits h e .0) (found-none is d))
@@ -91,7 +91,7 @@ module _ {s tree order : List ℕ} {root : Element} {t : Total} (h : Totals root
           fitting = fits root v (omega (arith, x, small));
         })
 
-pub the-total : {root : Element} {t : Total} {n : ℕ} → Totals root t → t ≡ totalled.Cents n → n ≡ total rows root
+pub the-total : {root : Element} {t : Total} {n : ℕ} → Totals root t → t ≡ totalled.Cents n → n ≡ total root
 the-total h e = total-fits h e .1
 
 pub no-values-refusal : (root : Element) {f : Finding} → refusal-found f ≡ values-refusal rows root → f ≡ finding.Nothing → values-refusal rows root ≡ none
@@ -106,7 +106,7 @@ rows-refused is d = first-refuses _ _ is d
 pub rows-refused-first : {s tree order : List ℕ} {root : Element} {f : Finding} → refusal-found f ≡ values-refusal rows root → {x : Fault} → f ≡ finding.Refused x
     → refusal-of x .number < 5 → Passes s tree order root (tree-refusal rows root) (Refused x)
 unfolding tree-refusal _or-else_
-rows-refused-first {root = root} is {x} d l = refuses {f = x} (rw (rows-first root (found-refused is d) l))
+rows-refused-first {root = root} is {x} d l = refuses {f = x} (rw (rows-first rows root (found-refused is d) l))
 
 pub no-rows-refusal : (root : Element) {f : Finding} → refusal-found f ≡ rows-refusal rows root → f ≡ finding.Nothing → rows-refusal rows root ≡ none
 no-rows-refusal root e d = found-none e d
@@ -119,7 +119,7 @@ module _ {s tree order : List ℕ} {root : Element} (none-of-rows : rows-refusal
     limits-refused {element} {offset} e = rw none-of-rows (go within e)
       where
         go : {l : Limits} → Limited s tree order root l → l ≡ Excess element offset
-            → Passes s tree order root (limits-refusal rows root or-else (values-refusal rows root or-else (usage-refusal rows root or-else (ids-refusal rows root or-else (total-refusal rows root or-else counts-refusal rows root)))))
+            → Passes s tree order root (limits-refusal root or-else (values-refusal rows root or-else (usage-refusal root or-else (ids-refusal root or-else (total-refusal root or-else counts-refusal root)))))
             (Refused (TooMany element offset))
         go (is-within a b c o) e = let z : _≡_ {A = ℕ} 0 1 = cc in absurd (omega (arith, z))
         go (is-excess {element = x} {offset = y} a) e =
@@ -128,14 +128,14 @@ module _ {s tree order : List ℕ} {root : Element} (none-of-rows : rows-refusal
             refuses {f = TooMany element offset} (rw a (ap (λ (n : ℕ). refuse 5 n y) g ∙ ap (λ (n : ℕ). refuse 5 element n) h))
 
     pub limits-passed : {b p : ℕ} {v : Verdict} → l ≡ Within b p → 208 ≤ length order
-        → (Ordered s tree order root → b ≡ length (blocks rows root) → p ≡ length (payments rows root)
-        → Passes s tree order root (values-refusal rows root or-else (usage-refusal rows root or-else (ids-refusal rows root or-else (total-refusal rows root or-else counts-refusal rows root)))) v)
+        → (Ordered s tree order root → b ≡ length (blocks root) → p ≡ length (payments root)
+        → Passes s tree order root (values-refusal rows root or-else (usage-refusal root or-else (ids-refusal root or-else (total-refusal root or-else counts-refusal root)))) v)
         → Passes s tree order root (tree-refusal rows root) v
     unfolding tree-refusal _or-else_
     limits-passed {b} {p} {v} e room then = rw none-of-rows (go within e)
       where
         go : {l : Limits} → Limited s tree order root l → l ≡ Within b p
-            → Passes s tree order root (limits-refusal rows root or-else (values-refusal rows root or-else (usage-refusal rows root or-else (ids-refusal rows root or-else (total-refusal rows root or-else counts-refusal rows root))))) v
+            → Passes s tree order root (limits-refusal root or-else (values-refusal rows root or-else (usage-refusal root or-else (ids-refusal root or-else (total-refusal root or-else counts-refusal root))))) v
         go (is-within {b = x} {p = y} a m n o) e =
             let g : x ≡ b = cc in
             let h : y ≡ p = cc in

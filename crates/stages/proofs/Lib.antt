@@ -1,5 +1,4 @@
 -- Laws that belong to no one function.
 pub mod Readable
 pub mod Fits
-pub mod OneWalk
 pub mod InTurn

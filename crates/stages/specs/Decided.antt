@@ -21,12 +21,12 @@ use Rattle.table.specs.Rows.{Fitting}
 -- what stands where, of a message that is accepted
 pub record Placed (s tree order : List ℕ) (root : Element) (b p c : ℕ) : Type 0 where
   pub ordered : Ordered s tree order root
-  pub blocks-are : b ≡ length (blocks rows root)
-  pub payments-are : p ≡ length (payments rows root)
+  pub blocks-are : b ≡ length (blocks root)
+  pub payments-are : p ≡ length (payments root)
   pub few : p ≤ 64
-  pub total-is : c ≡ total rows root
+  pub total-is : c ≡ total root
   pub readable : Readable root
-  pub fitting : All Fitting (payments rows root)
+  pub fitting : All Fitting (payments root)
 
 -- the stages over the tree from one on, as the verdict says them
 pub data Passes (s tree order : List ℕ) (root : Element) (refusal : Option Refusal) : Verdict → Type 0 where

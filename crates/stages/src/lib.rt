@@ -20,7 +20,7 @@ ghost use Rattle.stages.specs.Decided.{Passes, Decided};
 
 // 21, then 12 and 13.
 fn sums(s: &[u8], tree: &[u16], order: &[u16], blocks: usize, payments: usize) -> Verdict
-    ensures { λ r. ⌜ ((root : Element) (next : ℕ) → Laid (now (s .entry)) (now (tree .entry)) root 0 next → Ordered (now (s .entry)) (now (tree .entry)) (now (order .entry)) root → blocks ≡ length (all-blocks rows root) → payments ≡ length (all-payments rows root) → payments ≤ 64 → values-refusal rows root ≡ none → blocks ≤ 16 → Passes (now (s .entry)) (now (tree .entry)) (now (order .entry)) root (total-refusal rows root or-else counts-refusal rows root) r) ⌝ }
+    ensures { λ r. ⌜ ((root : Element) (next : ℕ) → Laid (now (s .entry)) (now (tree .entry)) root 0 next → Ordered (now (s .entry)) (now (tree .entry)) (now (order .entry)) root → blocks ≡ length (all-blocks root) → payments ≡ length (all-payments root) → payments ≤ 64 → values-refusal rows root ≡ none → blocks ≤ 16 → Passes (now (s .entry)) (now (tree .entry)) (now (order .entry)) root (total-refusal root or-else counts-refusal root) r) ⌝ }
 {
     let total = totals::total_cents(s, tree, order, payments);
     match total {
@@ -48,7 +48,7 @@ fn judged(
     payments: usize,
     values: Finding,
 ) -> Verdict
-    ensures { λ r. ⌜ ((root : Element) (next : ℕ) → Laid (now (s .entry)) (now (tree .entry)) root 0 next → refusal-found values ≡ values-refusal rows root → Ordered (now (s .entry)) (now (tree .entry)) (now (order .entry)) root → blocks ≡ length (all-blocks rows root) → payments ≡ length (all-payments rows root) → payments ≤ 64 → blocks ≤ 16 → Passes (now (s .entry)) (now (tree .entry)) (now (order .entry)) root (values-refusal rows root or-else usage-refusal rows root or-else ids-refusal rows root or-else total-refusal rows root or-else counts-refusal rows root) r) ⌝ }
+    ensures { λ r. ⌜ ((root : Element) (next : ℕ) → Laid (now (s .entry)) (now (tree .entry)) root 0 next → refusal-found values ≡ values-refusal rows root → Ordered (now (s .entry)) (now (tree .entry)) (now (order .entry)) root → blocks ≡ length (all-blocks root) → payments ≡ length (all-payments root) → payments ≤ 64 → blocks ≤ 16 → Passes (now (s .entry)) (now (tree .entry)) (now (order .entry)) root (values-refusal rows root or-else usage-refusal root or-else ids-refusal root or-else total-refusal root or-else counts-refusal root) r) ⌝ }
 {
     if let Finding::Refused(fault) = values {
         return Verdict::Refused(fault);

@@ -1,18 +1,18 @@
 -- Spans and rows of the table.
-use Prim.Native.Nat.{ℕ, suc, _+_, _/_, _%_, _-_, _≤_, _<_}
+use Prim.Native.Nat.{ℕ, _+_, _/_, _%_, _-_, _≤_, _<_}
 use native.Mathlib.Nat.{mod-eq-of-lt}
 use native.Mathlib.Omega.{arith}
 use native.Mathlib.Numerals.{add-one}
 use mathlib.Core.List.{List, [], _∷_}
-use mathlib.Core.Option.{Option, none, some}
+use mathlib.Core.Option.{Option, some}
 use mathlib.Core.Path.{_≡_, refl, sym, ap, _∙_, subst}
 use lib.ListN.{length, getD, set}
 use lib.Seq.{paste, paste-suc, length-paste}
 use Rattle.paper.specs.Form.{Element}
-use Rattle.paper.specs.Bytes.{bytes}
-use Rattle.paper.specs.Rows.{head-of, rows, row-of, leaf, group, group-under}
+use Rattle.paper.specs.Bytes.{bytes, each}
+use Rattle.paper.specs.Rows.{head-of, rows, leaf, group, group-under, name-in, name}
 use Rattle.paper.specs.Payments.{Payment, inherited, amount-of, either-of}
-use Rattle.paper.specs.Table.{Part, part-of, two-numbers, numbers-of}
+use Rattle.paper.specs.Table.{Part, part-of, start-and-length, pairs, numbers-of}
 use Rattle.tree.specs.Laid.{Laid}
 use Rattle.tree.proofs.Laws.{Cell, at-cell, start-cell, close-cell, entry-of}
 use Rattle.routes.specs.Finds.{Finds, along, names-of}
@@ -64,9 +64,9 @@ pasted-all d at numbers k e f = f ∙ ap (λ (n : ℕ). paste d at numbers n) e
 
 -- the contents of row 16, the payment's or else its block's
 pub kind-found : {s tree : List ℕ} {f : Found} (p : Payment)
-    → Finds s tree (either-of (along (bytes "PmtTpInf" ∷ []) (some (p .own))) (along (bytes "PmtTpInf" ∷ []) (some (p .block)))) f → Finds s tree (inherited rows (16 ∷ []) p) f
-unfolding names-of row-of rows leaf group group-under bytes
-kind-found {s} {tree} {f} p h = subst (λ (o : Option Element). Finds s tree o f) (sym (inherited-along (16 ∷ []) p refl refl)) h
+    → Finds s tree (either-of (along (bytes "PmtTpInf" ∷ []) (some (p .own))) (along (bytes "PmtTpInf" ∷ []) (some (p .block)))) f → Finds s tree (inherited (16 ∷ []) p) f
+unfolding names-of name name-in rows leaf group group-under bytes
+kind-found {s} {tree} {f} p h = subst (λ (o : Option Element). Finds s tree o f) (sym (inherited-along (16 ∷ []) p refl)) h
 
 -- the sixteen numbers of a payment, none of which is cut
 module _ {s : List ℕ} {p : Payment} {of : Spans} (w : length s ≤ 32768) (o : SpansOf s p of) where
@@ -79,10 +79,10 @@ module _ {s : List ℕ} {p : Payment} {of : Spans} (w : length s ≤ 32768) (o :
   size-uncut : {part : Part} {r : Span} → SpanIs s part r → r .size % 4294967296 ≡ part .size
   size-uncut i = uncut (omega (arith, i .inside, w)) (i .size-is)
 
-  pub the-row : {number cents at : ℕ} {row : List ℕ} → Fitting p → number ≡ p .block-number → cents ≡ amount-of rows (p .own) → at ≡ head-of (p .own) .at → at ≤ length s
+  pub the-row : {number cents at : ℕ} {row : List ℕ} → Fitting p → number ≡ p .block-number → cents ≡ amount-of (p .own) → at ≡ head-of (p .own) .at → at ≤ length s
       → row ≡ number % 4294967296 ∷ of .id .start % 4294967296 ∷ of .id .size % 4294967296 ∷ of .creditor .start % 4294967296 ∷ of .creditor .size % 4294967296 ∷ of .name .start % 4294967296 ∷ of .name .size % 4294967296 ∷ of .ultimate .start % 4294967296 ∷ of .ultimate .size % 4294967296 ∷ of .kind .start % 4294967296 ∷ of .kind .size % 4294967296 ∷ of .debtor .start % 4294967296 ∷ of .debtor .size % 4294967296 ∷ cents / 100 % 4294967296 ∷ cents % 100 ∷ at % 4294967296 ∷ []
-      → row ≡ numbers-of rows p
-  unfolding numbers-of two-numbers
+      → row ≡ numbers-of p
+  unfolding numbers-of each pairs start-and-length
   the-row {number} {cents} {at} f n c a b e =
       let e0 : number % 4294967296 ≡ p .block-number = uncut (omega (arith, n, f .numbered)) n in
       let e1 = start-uncut (o .id) in
@@ -97,8 +97,8 @@ module _ {s : List ℕ} {p : Payment} {of : Spans} (w : length s ≤ 32768) (o :
       let e10 = size-uncut (o .kind) in
       let e11 = start-uncut (o .debtor) in
       let e12 = size-uncut (o .debtor) in
-      let e13 : cents / 100 % 4294967296 ≡ amount-of rows (p .own) / 100 = uncut (omega (arith, c, f .small)) (ap (λ (x : ℕ). x / 100) c) in
-      let e14 : cents % 100 ≡ amount-of rows (p .own) % 100 = ap (λ (x : ℕ). x % 100) c in
+      let e13 : cents / 100 % 4294967296 ≡ amount-of (p .own) / 100 = uncut (omega (arith, c, f .small)) (ap (λ (x : ℕ). x / 100) c) in
+      let e14 : cents % 100 ≡ amount-of (p .own) % 100 = ap (λ (x : ℕ). x % 100) c in
       let e15 : at % 4294967296 ≡ head-of (p .own) .at = uncut (omega (arith, b, w)) a in
       e ∙ rw (e0, e1, e2, e3, e4, e5, e6, e7, e8, e9, e10, e11, e12, e13, e14, e15)
 

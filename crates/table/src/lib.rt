@@ -8,7 +8,6 @@ ghost use lib.ListN.{length, drop};
 ghost use lib.Seq.{paste};
 ghost use Rattle.paper.specs.Bytes.{each};
 ghost use Rattle.paper.specs.Form.{Element};
-ghost use Rattle.paper.specs.Rows.{rows};
 ghost use Rattle.paper.specs.Payments.{Payment, payments};
 ghost use Rattle.paper.specs.Table.{part-of, numbers-of};
 ghost use Rattle.paper.specs.Accepted.{All};
@@ -113,7 +112,7 @@ fn put(table: &mut [u32], at: usize, numbers: [u32; 16])
 
 // The sixteen numbers of the payment `own` in its block.
 fn numbers_of(s: &[u8], tree: &[u16], own: usize, block: usize, number: usize) -> [u32; 16]
-    ensures { λ r. ⌜ (length (now (s .entry)) ≤ 32768 → (p : Payment) (m n : ℕ) → Laid (now (s .entry)) (now (tree .entry)) (p .own) own m → Laid (now (s .entry)) (now (tree .entry)) (p .block) block n → Fitting p → number ≡ p .block-number → r ≡ numbers-of rows p) ⌝ }
+    ensures { λ r. ⌜ (length (now (s .entry)) ≤ 32768 → (p : Payment) (m n : ℕ) → Laid (now (s .entry)) (now (tree .entry)) (p .own) own m → Laid (now (s .entry)) (now (tree .entry)) (p .block) block n → Fitting p → number ≡ p .block-number → r ≡ numbers-of p) ⌝ }
 {
     let of = spans_of(s, tree, own, block);
     let cents = totals::amount(s, tree, own);
@@ -122,7 +121,7 @@ fn numbers_of(s: &[u8], tree: &[u16], own: usize, block: usize, number: usize) -
 
 // Each payment's numbers, in the order of the payments; every later number stays.
 pub fn fill(s: &[u8], tree: &[u16], order: &[u16], many: usize, table: &mut [u32])
-    ensures { λ r. ⌜ (length (now (s .entry)) ≤ 32768 → (root : Element) → Ordered (now (s .entry)) (now (tree .entry)) (now (order .entry)) root → many ≡ length (payments rows root) → many ≤ 64 → All Fitting (payments rows root) → 1024 ≤ length (now (table .entry)) → now (table .exit) ≡ each (numbers-of rows) (payments rows root) ++ drop (16 * length (payments rows root)) (now (table .entry))) ⌝ }
+    ensures { λ r. ⌜ (length (now (s .entry)) ≤ 32768 → (root : Element) → Ordered (now (s .entry)) (now (tree .entry)) (now (order .entry)) root → many ≡ length (payments root) → many ≤ 64 → All Fitting (payments root) → 1024 ≤ length (now (table .entry)) → now (table .exit) ≡ each numbers-of (payments root) ++ drop (16 * length (payments root)) (now (table .entry))) ⌝ }
 {
     let mut k = 0;
     while k < many {

@@ -9,7 +9,6 @@ use lib.ListN.{length, getD}
 use lib.Dec.{eqb}
 use borrow.Author.Tests.{ne-eqb, lt-ltb, le-ltb}
 use Rattle.paper.specs.Form.{Element}
-use Rattle.paper.specs.Rows.{rows}
 use Rattle.paper.specs.Values.{number, cents, money}
 use Rattle.paper.specs.Payments.{Payment, text-of, follow, of-header, payments, amount-of, sum-of, total}
 use Rattle.paper.specs.Refusals.{Refusal, refuse, at-of, total-refusal}
@@ -36,22 +35,22 @@ amount-at : Option Element → ℕ
 amount-at none = 0
 amount-at (some u) = cents (text-of u)
 
-amount-is : (t : Element) → amount-of rows t ≡ amount-at (follow rows 37 (41 ∷ 42 ∷ []) t)
+amount-is : (t : Element) → amount-of t ≡ amount-at (follow (41 ∷ 42 ∷ []) t)
 unfolding amount-of amount-at
-amount-is t = go (follow rows 37 (41 ∷ 42 ∷ []) t)
+amount-is t = go (follow (41 ∷ 42 ∷ []) t)
   where
     go : (o : Option Element) → _≡_ {A = ℕ} (elim o [ none ↦ 0 | some u ↦ cents (text-of u) ]) (amount-at o)
     go none = refl
     go (some u) = refl
 
 module _ {s tree : List ℕ} {f : Found} where
-  pub amount-absent : (t : Element) → Finds s tree (follow rows 37 (41 ∷ 42 ∷ []) t) f → f ≡ Nothing → 0 ≡ amount-of rows t
+  pub amount-absent : (t : Element) → Finds s tree (follow (41 ∷ 42 ∷ []) t) f → f ≡ Nothing → 0 ≡ amount-of t
   unfolding amount-at
   amount-absent t found e = sym (amount-is t ∙ ap amount-at (found-none found e))
 
-  pub amount-there : (t : Element) {i r : ℕ} → Finds s tree (follow rows 37 (41 ∷ 42 ∷ []) t) f → f ≡ At i
+  pub amount-there : (t : Element) {i r : ℕ} → Finds s tree (follow (41 ∷ 42 ∷ []) t) f → f ≡ At i
       → ((u : Element) (next : ℕ) → Laid s tree u i next → money (text-of u) ≡ true → r ≡ cents (text-of u))
-      → ReadMoney (follow rows 37 (41 ∷ 42 ∷ []) t) → r ≡ amount-of rows t
+      → ReadMoney (follow (41 ∷ 42 ∷ []) t) → r ≡ amount-of t
   unfolding amount-at
   amount-there t found e h read =
       let u = found-some found e in
@@ -98,9 +97,9 @@ module _ {A : Type 0} {P : A → Type 0} {a : A} {rest : List A} where
 
 -- the sum of the amounts of some payments
 abbrev pub amounts : List Payment → ℕ
-amounts ps = sum-of rows (map (λ p. p .own) ps)
+amounts ps = sum-of (map (λ p. p .own) ps)
 
-amounts-more : (p : Payment) (ps : List Payment) → amounts (p ∷ ps) ≡ amount-of rows (p .own) + amounts ps
+amounts-more : (p : Payment) (ps : List Payment) → amounts (p ∷ ps) ≡ amount-of (p .own) + amounts ps
 unfolding sum-of
 amounts-more p ps = refl
 
@@ -119,7 +118,7 @@ pub record Summing (s tree out : List ℕ) (ps : List Payment) (done k n : ℕ) 
 -- what `amount` answers
 abbrev pub AmountAt : (s tree : List ℕ) (own r : ℕ) → Type 0
 AmountAt s tree own r =
-    (t : Element) (next : ℕ) → Laid s tree t own next → ReadMoney (follow rows 37 (41 ∷ 42 ∷ []) t) → r ≡ amount-of rows t
+    (t : Element) (next : ℕ) → Laid s tree t own next → ReadMoney (follow (41 ∷ 42 ∷ []) t) → r ≡ amount-of t
 
 module _ {s tree out : List ℕ} {ps : List Payment} where
   pub summing : {k n : ℕ} → PaymentsAt s tree out k ps → n ≡ k + length ps → All ReadPayment ps → Summing s tree out ps 0 k n
@@ -131,8 +130,8 @@ module _ {s tree out : List ℕ} {ps : List Payment} where
     with-one f =
         let p = f .one in
         let laid = stands-at (here (omega arith)) (f .one-at .own-is) in
-        let x : r ≡ amount-of rows (p .own) = says-amount (p .own) (f .one-at .own-next) laid (first-has (f .first-is) (w .rest-read) .amount) in
-        let y : amounts (w .rest) ≡ amount-of rows (p .own) + amounts (f .others) = ap amounts (f .first-is) ∙ amounts-more p (f .others) in
+        let x : r ≡ amount-of (p .own) = says-amount (p .own) (f .one-at .own-next) laid (first-has (f .first-is) (w .rest-read) .amount) in
+        let y : amounts (w .rest) ≡ amount-of (p .own) + amounts (f .others) = ap amounts (f .first-is) ∙ amounts-more p (f .others) in
         w .sum-is ∙ ap (λ (m : ℕ). done + m) (y ∙ ap (λ (m : ℕ). m + amounts (f .others)) (sym x))
 
     pub sum-goes : Summing s tree out ps (done + r) (k + 1) n
@@ -159,19 +158,19 @@ module _ {s tree out : List ℕ} {ps : List Payment} where
 
 -- the total, by the sum of all payments
 module _ {root : Element} where
-  pub total-fits : {a : Sum} {n : ℕ} → Sums (amounts (payments rows root)) a → a ≡ sum.Cents n → Totals root (totalled.Cents n)
+  pub total-fits : {a : Sum} {n : ℕ} → Sums (amounts (payments root)) a → a ≡ sum.Cents n → Totals root (totalled.Cents n)
   unfolding total total-refusal
   total-fits {n = n} (sums-to {m} e b) d =
       let x : m ≡ n = cc in
-      let y : amounts (payments rows root) < 2 ^ 64 = omega arith in
-      total-is (rw (lt-ltb (amounts (payments rows root)) (2 ^ 64) y)) (e ∙ x)
+      let y : amounts (payments root) < 2 ^ 64 = omega arith in
+      total-is (rw (lt-ltb (amounts (payments root)) (2 ^ 64) y)) (e ∙ x)
   total-fits (sums-above h) d = let z : _≡_ {A = ℕ} 0 1 = cc in absurd (omega (arith, z))
 
-  pub total-exceeds : {a : Sum} {at : ℕ} → Sums (amounts (payments rows root)) a → a ≡ sum.TooLarge → at ≡ at-of (of-header rows 7 root)
+  pub total-exceeds : {a : Sum} {at : ℕ} → Sums (amounts (payments root)) a → a ≡ sum.TooLarge → at ≡ at-of (of-header 7 root)
       → Totals root (totalled.TooLarge at)
   unfolding total total-refusal
   total-exceeds (sums-to e b) d f = let z : _≡_ {A = ℕ} 0 1 = cc in absurd (omega (arith, z))
-  total-exceeds {at = at} (sums-above h) d f = total-above {offset = at} (rw (le-ltb (amounts (payments rows root)) (2 ^ 64) h) (ap (refuse 21 7) (sym f)))
+  total-exceeds {at = at} (sums-above h) d f = total-above {offset = at} (rw (le-ltb (amounts (payments root)) (2 ^ 64) h) (ap (refuse 21 7) (sym f)))
 
 same-above : (m n : ℕ) → refuse 21 7 m ≡ refuse 21 7 n → totalled.TooLarge m ≡ totalled.TooLarge n
 unfolding refuse

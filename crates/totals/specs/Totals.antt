@@ -3,7 +3,6 @@ use Prim.Native.Nat.{ℕ, _^_, _≤_, _<_}
 use mathlib.Core.Option.{none}
 use mathlib.Core.Path.{_≡_}
 use Rattle.paper.specs.Form.{Element}
-use Rattle.paper.specs.Rows.{rows}
 use Rattle.paper.specs.Payments.{total}
 use Rattle.paper.specs.Refusals.{refuse, total-refusal}
 use Rattle.totals.specs.declared.Sum.{Sum}
@@ -18,5 +17,5 @@ pub data Sums (n : ℕ) : Sum → Type 0 where
 
 -- Refusal 21 as the answer says it: the total, or where row 7 stands.
 pub data Totals (root : Element) : Total → Type 0 where
-  total-is : {n : ℕ} → total-refusal rows root ≡ none → total rows root ≡ n → Totals root (totalled.Cents n)
-  total-above : {offset : ℕ} → total-refusal rows root ≡ refuse 21 7 offset → Totals root (totalled.TooLarge offset)
+  total-is : {n : ℕ} → total-refusal root ≡ none → total root ≡ n → Totals root (totalled.Cents n)
+  total-above : {offset : ℕ} → total-refusal root ≡ refuse 21 7 offset → Totals root (totalled.TooLarge offset)

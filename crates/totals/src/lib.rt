@@ -5,7 +5,6 @@ ghost use mathlib.Core.List.{List, [], _∷_, map};
 ghost use Prim.Native.Nat.{ℕ, _+_, _*_, _<_, _≤_};
 ghost use lib.ListN.{length, getD};
 ghost use Rattle.paper.specs.Form.{Element};
-ghost use Rattle.paper.specs.Rows.{rows};
 ghost use Rattle.paper.specs.Payments.{Payment, follow, of-header, payments as all-payments, amount-of, sum-of};
 ghost use Rattle.paper.specs.Refusals.{at-of};
 ghost use Rattle.paper.specs.Accepted.{All};
@@ -28,7 +27,7 @@ pub enum Total {
 
 // The instructed amount of the payment at element `own`, in cents.
 pub fn amount(s: &[u8], tree: &[u16], own: usize) -> u64
-    ensures { λ r. ⌜ ((t : Element) (next : ℕ) → Laid (now (s .entry)) (now (tree .entry)) t own next → ReadMoney (follow rows 37 (41 ∷ 42 ∷ []) t) → r ≡ amount-of rows t) ⌝ }
+    ensures { λ r. ⌜ ((t : Element) (next : ℕ) → Laid (now (s .entry)) (now (tree .entry)) t own next → ReadMoney (follow (41 ∷ 42 ∷ []) t) → r ≡ amount-of t) ⌝ }
 {
     let found = routes::follow2(s, tree, own, b"Amt", b"InstdAmt");
     match found {
@@ -49,7 +48,7 @@ fn own_at(out: &[u16], k: usize) -> usize
 
 // The sum of the amounts of the payments from one up to another.
 pub fn sum_of(s: &[u8], tree: &[u16], out: &[u16], from: usize, to: usize) -> Sum
-    ensures { λ r. ⌜ ((ps : List Payment) → PaymentsAt (now (s .entry)) (now (tree .entry)) (now (out .entry)) from ps → to ≡ from + length ps → to ≤ 64 → All ReadPayment ps → Sums (sum-of rows (map (λ p. p .own) ps)) r) ⌝ }
+    ensures { λ r. ⌜ ((ps : List Payment) → PaymentsAt (now (s .entry)) (now (tree .entry)) (now (out .entry)) from ps → to ≡ from + length ps → to ≤ 64 → All ReadPayment ps → Sums (sum-of (map (λ p. p .own) ps)) r) ⌝ }
 {
     let mut sum: u64 = 0;
     let mut k = from;
@@ -66,7 +65,7 @@ pub fn sum_of(s: &[u8], tree: &[u16], out: &[u16], from: usize, to: usize) -> Su
 
 // Where row 7 stands.
 fn header_sum_at(s: &[u8], tree: &[u16]) -> usize
-    ensures { λ r. ⌜ ((root : Element) (next : ℕ) → Laid (now (s .entry)) (now (tree .entry)) root 0 next → r ≡ at-of (of-header rows 7 root)) ⌝ }
+    ensures { λ r. ⌜ ((root : Element) (next : ℕ) → Laid (now (s .entry)) (now (tree .entry)) root 0 next → r ≡ at-of (of-header 7 root)) ⌝ }
 {
     let found = routes::follow3(s, tree, 0, b"CstmrCdtTrfInitn", b"GrpHdr", b"CtrlSum");
     match found {
@@ -77,7 +76,7 @@ fn header_sum_at(s: &[u8], tree: &[u16]) -> usize
 
 // 21: the total of the amounts, where it is not above 64 bits.
 pub fn total_cents(s: &[u8], tree: &[u16], out: &[u16], payments: usize) -> Total
-    ensures { λ r. ⌜ ((root : Element) (next : ℕ) → Laid (now (s .entry)) (now (tree .entry)) root 0 next → Ordered (now (s .entry)) (now (tree .entry)) (now (out .entry)) root → payments ≡ length (all-payments rows root) → payments ≤ 64 → Readable root → Totals root r) ⌝ }
+    ensures { λ r. ⌜ ((root : Element) (next : ℕ) → Laid (now (s .entry)) (now (tree .entry)) root 0 next → Ordered (now (s .entry)) (now (tree .entry)) (now (out .entry)) root → payments ≡ length (all-payments root) → payments ≤ 64 → Readable root → Totals root r) ⌝ }
 {
     let sum = sum_of(s, tree, out, 0, payments);
     match sum {

@@ -1,9 +1,8 @@
 -- What is found in a payment and in its block decides refusals 9 and 10.
 use Prim.Native.Nat.{ℕ}
 use mathlib.Core.List.{List}
-use mathlib.Core.Option.{none, some}
 use mathlib.Core.Path.{_≡_, sym, ap, _∙_}
-use Rattle.paper.specs.Rows.{rows, row-of}
+use Rattle.paper.specs.Rows.{name}
 use Rattle.paper.specs.Payments.{Payment}
 use Rattle.paper.specs.Refusals.{refuse, in-both, in-neither}
 use Rattle.paper.specs.Answers.{refusal-found, refusal-of, numbered}
@@ -16,40 +15,40 @@ use Rattle.routes.specs.declared.Found.{Found}
 use Rattle.routes.specs.declared.Found.the-variants.{At, Nothing}
 use Rattle.routes.proofs.WhatIsFound.{found-none, found-some, own-row, block-row}
 
-module _ (row : ℕ) {s tree name : List ℕ} (p : Payment) (own-name : name ≡ row-of rows 37 row .name) (block-name : name ≡ row-of rows 10 row .name) where
-  pub not-own : {f : Found} → Finds s tree (child-named name (p .own)) f → f ≡ Nothing → refusal-found finding.Nothing ≡ in-both rows row p
+module _ (row : ℕ) {s tree w : List ℕ} (p : Payment) (named : w ≡ name row) where
+  pub not-own : {f : Found} → Finds s tree (child-named w (p .own)) f → f ≡ Nothing → refusal-found finding.Nothing ≡ in-both row p
   unfolding refusal-found in-both
-  not-own l e = sym (rw (own-row rows row name p own-name ∙ found-none l e, in-both))
+  not-own l e = sym (rw (own-row row w p named ∙ found-none l e, in-both))
 
-  pub not-block : {f g : Found} {i : ℕ} → Finds s tree (child-named name (p .own)) f → f ≡ At i → Finds s tree (child-named name (p .block)) g → g ≡ Nothing
-      → refusal-found finding.Nothing ≡ in-both rows row p
+  pub not-block : {f g : Found} {i : ℕ} → Finds s tree (child-named w (p .own)) f → f ≡ At i → Finds s tree (child-named w (p .block)) g → g ≡ Nothing
+      → refusal-found finding.Nothing ≡ in-both row p
   unfolding refusal-found in-both
   not-block l e k d =
-      sym (rw (own-row rows row name p own-name ∙ found-some l e .is-it, block-row rows row name p block-name ∙ found-none k d, in-both))
+      sym (rw (own-row row w p named ∙ found-some l e .is-it, block-row row w p named ∙ found-none k d, in-both))
 
-  pub both : {f g : Found} {i j at : ℕ} → Finds s tree (child-named name (p .own)) f → f ≡ At i → Finds s tree (child-named name (p .block)) g → g ≡ At j
-      → Cell tree i 0 at → refusal-found (finding.Refused (InPaymentAndBlock row at)) ≡ in-both rows row p
+  pub both : {f g : Found} {i j at : ℕ} → Finds s tree (child-named w (p .own)) f → f ≡ At i → Finds s tree (child-named w (p .block)) g → g ≡ At j
+      → Cell tree i 0 at → refusal-found (finding.Refused (InPaymentAndBlock row at)) ≡ in-both row p
   unfolding refusal-found refusal-of numbered refuse in-both
   both {at = at} l e k d c =
       let t = found-some l e in
-      sym (rw (own-row rows row name p own-name ∙ t .is-it, block-row rows row name p block-name ∙ found-some k d .is-it, in-both)
+      sym (rw (own-row row w p named ∙ t .is-it, block-row row w p named ∙ found-some k d .is-it, in-both)
       (ap (λ (n : ℕ). refuse 9 row n) (sym (at-cell (entry-of (t .laid)) c))))
 
-  pub own-there : {f : Found} {i : ℕ} → Finds s tree (child-named name (p .own)) f → f ≡ At i → refusal-found finding.Nothing ≡ in-neither rows row p
+  pub own-there : {f : Found} {i : ℕ} → Finds s tree (child-named w (p .own)) f → f ≡ At i → refusal-found finding.Nothing ≡ in-neither row p
   unfolding refusal-found in-neither
-  own-there l e = sym (rw (own-row rows row name p own-name ∙ found-some l e .is-it, in-neither))
+  own-there l e = sym (rw (own-row row w p named ∙ found-some l e .is-it, in-neither))
 
-  pub block-there : {f g : Found} {i : ℕ} → Finds s tree (child-named name (p .own)) f → f ≡ Nothing → Finds s tree (child-named name (p .block)) g → g ≡ At i
-      → refusal-found finding.Nothing ≡ in-neither rows row p
+  pub block-there : {f g : Found} {i : ℕ} → Finds s tree (child-named w (p .own)) f → f ≡ Nothing → Finds s tree (child-named w (p .block)) g → g ≡ At i
+      → refusal-found finding.Nothing ≡ in-neither row p
   unfolding refusal-found in-neither
   block-there l e k d =
-      sym (rw (own-row rows row name p own-name ∙ found-none l e, block-row rows row name p block-name ∙ found-some k d .is-it, in-neither))
+      sym (rw (own-row row w p named ∙ found-none l e, block-row row w p named ∙ found-some k d .is-it, in-neither))
 
 -- 10 is row 16's
-pub neither : {s tree name : List ℕ} (p : Payment) → name ≡ row-of rows 37 16 .name → name ≡ row-of rows 10 16 .name → {f g : Found} {own m at : ℕ}
-    → Finds s tree (child-named name (p .own)) f → f ≡ Nothing → Finds s tree (child-named name (p .block)) g → g ≡ Nothing → Laid s tree (p .own) own m → Cell tree own 0 at
-    → refusal-found (finding.Refused (InNeither at)) ≡ in-neither rows 16 p
+pub neither : {s tree w : List ℕ} (p : Payment) → w ≡ name 16 → {f g : Found} {own m at : ℕ}
+    → Finds s tree (child-named w (p .own)) f → f ≡ Nothing → Finds s tree (child-named w (p .block)) g → g ≡ Nothing → Laid s tree (p .own) own m → Cell tree own 0 at
+    → refusal-found (finding.Refused (InNeither at)) ≡ in-neither 16 p
 unfolding refusal-found refusal-of numbered refuse in-neither
-neither {name = name} p own-name block-name l e k d o c =
-    sym (rw (own-row rows 16 name p own-name ∙ found-none l e, block-row rows 16 name p block-name ∙ found-none k d, in-neither)
+neither {w = w} p named l e k d o c =
+    sym (rw (own-row 16 w p named ∙ found-none l e, block-row 16 w p named ∙ found-none k d, in-neither)
     (ap (λ (n : ℕ). refuse 10 16 n) (sym (at-cell (entry-of o) c))))

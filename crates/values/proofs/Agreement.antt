@@ -2,15 +2,15 @@
 use Prim.Native.Nat.{ℕ, _+_}
 use mathlib.Core.Path.{_≡_, refl, ap, sym, _∙_}
 use mathlib.Core.List.{List, []}
-use mathlib.Core.Option.{Option, none, some}
+use mathlib.Core.Option.{none}
 use native.Mathlib.Omega.{arith}
-use mathlib.Core.Bool.{Bool, true, false, _||_, not}
+use mathlib.Core.Bool.{Bool, true, false, not}
 use lib.ListN.{length}
-use Rattle.paper.specs.Bytes.{if_then_else_, is, every, value-character}
+use Rattle.paper.specs.Bytes.{if_then_else_, every, value-character}
 use Rattle.paper.specs.Values.{lies-from, allowed}
 use Rattle.paper.specs.Form.{Head}
-use Rattle.paper.specs.Rows.{Row, text}
-use Rattle.paper.specs.Refusals.{Refusal, refuse, longest-of, first-not, leaf-refusal}
+use Rattle.paper.specs.Rows.{Row, text, longest-of}
+use Rattle.paper.specs.Refusals.{refuse, first-not, leaf-refusal}
 use Rattle.paper.proofs.Laws.{number-of, offset-of}
 use Rattle.values.specs.Judgements.{told, Judges}
 use Rattle.values.specs.declared.Judgement.{Judgement}
@@ -58,24 +58,21 @@ one-judgement parent row longest currency w a b ja jb =
 pub record Right (parent row longest : ℕ) (currency w : List ℕ) : Type 0 where
   pub long-enough : lies-from 1 longest (length w) ≡ true
   pub in-the-set : every value-character w ≡ true
-  pub not-spaces : every (is " ") w ≡ false
   pub as-the-row-says : allowed parent row currency w ≡ true
 
 pub fine-is-right :
     (parent row longest : ℕ) (currency w : List ℕ) → Judges parent row longest currency w Fine → Right parent row longest currency w
 unfolding longest-of leaf-refusal told refuse number-of row-of-leaf head-in
 fine-is-right parent row longest currency w j =
-    by (lies-from 1 longest (length w)) (every value-character w) (every (is " ") w) (allowed parent row currency w) refl refl refl refl
+    by (lies-from 1 longest (length w)) (every value-character w) (allowed parent row currency w) refl refl refl
     (j .judged (row-of-leaf row longest) (head-in currency) refl refl refl)
   where
     by :
-        (a b c d : Bool) → lies-from 1 longest (length w) ≡ a → every value-character w ≡ b → every (is " ") w ≡ c →
-        allowed parent row currency w ≡ d →
+        (a b d : Bool) → lies-from 1 longest (length w) ≡ a → every value-character w ≡ b → allowed parent row currency w ≡ d →
         (if not a then refuse 6 row 0 else
         if not b then refuse 7 row (0 + first-not value-character w) else
-        if c || not d then refuse 8 row 0 else none) ≡ none → Right parent row longest currency w
-    by true true false true e f g h k = record { long-enough = e; in-the-set = f; not-spaces = g; as-the-row-says = h }
-    by true true false false e f g h k = differ (omega arith) (ap number-of k)
-    by true true true d e f g h k = differ (omega arith) (ap number-of k)
-    by true false c d e f g h k = differ (omega arith) (ap number-of k)
-    by false b c d e f g h k = differ (omega arith) (ap number-of k)
+        if not d then refuse 8 row 0 else none) ≡ none → Right parent row longest currency w
+    by true true true e f h k = record { long-enough = e; in-the-set = f; as-the-row-says = h }
+    by true true false e f h k = differ (omega arith) (ap number-of k)
+    by true false d e f h k = differ (omega arith) (ap number-of k)
+    by false b d e f h k = differ (omega arith) (ap number-of k)

@@ -7,7 +7,7 @@ use native.Mathlib.Omega.{arith}
 use lib.ListN.{length}
 use borrow.Author.Tests.{ne-eqb, le-leb, lt-leb}
 use Rattle.paper.specs.Bytes.{is, every, value-character}
-use Rattle.paper.specs.Values.{among, lies-from, allowed}
+use Rattle.paper.specs.Values.{among, lies-from, right-for, spaces-alone, allowed}
 use Rattle.paper.specs.Refusals.{first-not, leaf-refusal}
 use Rattle.texts.proofs.Laws.{one-first}
 use Rattle.values.specs.Judgements.{told, Judges}
@@ -16,8 +16,8 @@ use Rattle.values.specs.declared.Judgement.the-variants.{Fine, EmptyOrTo
 -- a row that is not named is free
 pub free :
     (parent row : ℕ) (currency w : List ℕ) → (row ≡ 4 → ⊥) → (row ≡ 11 → ⊥) → (row ≡ 39 → ⊥) → (row ≡ 40 → ⊥) → (row ≡ 12 → ⊥) → (row ≡ 13 → ⊥) → (row ≡ 17 → ⊥) → (row ≡ 19 → ⊥) → (row ≡ 33 → ⊥) → (row ≡ 36 → ⊥) → (row ≡ 21 → ⊥) → (row ≡ 23 → ⊥) → (row ≡ 5 → ⊥) → (row ≡ 6 → ⊥) → (row ≡ 14 → ⊥) → (row ≡ 7 → ⊥) → (row ≡ 15 → ⊥) → (row ≡ 42 → ⊥) → (row ≡ 31 → ⊥) → (row ≡ 28 → ⊥) →
-    allowed parent row currency w ≡ true
-unfolding allowed among
+    right-for parent row currency w ≡ true
+unfolding right-for among
 free parent row currency w n4 n11 n39 n40 n12 n13 n17 n19 n33 n36 n21 n23 n5 n6 n14 n7 n15 n42 n31 n28 =
     rw (ne-eqb row 4 n4, ne-eqb row 11 n11, ne-eqb row 39 n39, ne-eqb row 40 n40, ne-eqb row 12 n12, ne-eqb row 13 n13, ne-eqb row 17 n17, ne-eqb row 19 n19, ne-eqb row 33 n33, ne-eqb row 36 n36, ne-eqb row 21 n21, ne-eqb row 23 n23, ne-eqb row 5 n5, ne-eqb row 6 n6, ne-eqb row 14 n14, ne-eqb row 7 n7, ne-eqb row 15 n15, ne-eqb row 42 n42, ne-eqb row 31 n31, ne-eqb row 28 n28)
 
@@ -41,18 +41,18 @@ module _ (parent row longest : ℕ) (currency w : List ℕ) where
 
     module _ (inside : every value-character w ≡ true) where
       pub spaces-judges : every (is " ") w ≡ true → Judges parent row longest currency w NotAllowed
-      unfolding leaf-refusal lies-from told
+      unfolding leaf-refusal lies-from told allowed spaces-alone
       spaces-judges s =
           record { judged = λ r h e f g. rw (e, f, le-leb 1 (length w) low, le-leb (length w) longest high, inside, s) }
 
       pub not-allowed-judges :
-          every (is " ") w ≡ false → allowed parent row currency w ≡ false → Judges parent row longest currency w NotAllowed
-      unfolding leaf-refusal lies-from told
+          every (is " ") w ≡ false → right-for parent row currency w ≡ false → Judges parent row longest currency w NotAllowed
+      unfolding leaf-refusal lies-from told allowed spaces-alone
       not-allowed-judges s a =
           record { judged = λ r h e f g. rw (e, f, g, le-leb 1 (length w) low, le-leb (length w) longest high, inside, s, a) }
 
       pub fine-judges :
-          every (is " ") w ≡ false → allowed parent row currency w ≡ true → Judges parent row longest currency w Fine
-      unfolding leaf-refusal lies-from told
+          every (is " ") w ≡ false → right-for parent row currency w ≡ true → Judges parent row longest currency w Fine
+      unfolding leaf-refusal lies-from told allowed spaces-alone
       fine-judges s a =
           record { judged = λ r h e f g. rw (e, f, g, le-leb 1 (length w) low, le-leb (length w) longest high, inside, s, a) }

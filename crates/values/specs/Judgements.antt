@@ -4,8 +4,8 @@ use mathlib.Core.Path.{_≡_}
 use mathlib.Core.List.{List}
 use mathlib.Core.Option.{Option, none}
 use Rattle.paper.specs.Form.{Head}
-use Rattle.paper.specs.Rows.{Row}
-use Rattle.paper.specs.Refusals.{Refusal, refuse, longest-of, leaf-refusal}
+use Rattle.paper.specs.Rows.{Row, longest-of}
+use Rattle.paper.specs.Refusals.{Refusal, refuse, leaf-refusal}
 use Rattle.values.specs.declared.Judgement.{Judgement}
 use Rattle.values.specs.declared.Judgement.the-variants.{Fine, EmptyOrTooLong, NotInTheSet, NotAllowed}
 

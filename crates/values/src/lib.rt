@@ -2,7 +2,7 @@
 ghost use mathlib.Core.Path.{_≡_};
 ghost use mathlib.Core.Bool.{_&&_};
 ghost use Rattle.paper.specs.Bytes.{if_then_else_, bytes, same};
-ghost use Rattle.paper.specs.Values.{allowed, amount};
+ghost use Rattle.paper.specs.Values.{right-for, amount};
 ghost use Rattle.values.specs.Judgements.{Judges};
 ghost use lib.Dec.{eqb};
 
@@ -35,8 +35,8 @@ fn amount_in(currency: &[u8], s: &[u8]) -> bool
 }
 
 // The rule of the leaf's row. Any row that is not named is free.
-pub fn allowed(parent: usize, row: usize, currency: &[u8], s: &[u8]) -> bool
-    ensures { λ r. ⌜ r ≡ allowed parent row (now (currency .entry)) (now (s .entry)) ⌝ }
+fn right_for(parent: usize, row: usize, currency: &[u8], s: &[u8]) -> bool
+    ensures { λ r. ⌜ r ≡ right-for parent row (now (currency .entry)) (now (s .entry)) ⌝ }
 {
     match row {
         4 | 11 => identifiers::id(s),
@@ -77,7 +77,7 @@ pub fn leaf(parent: usize, row: usize, longest: usize, currency: &[u8], s: &[u8]
     if characters::spaces_alone(s) {
         return Judgement::NotAllowed;
     }
-    if !allowed(parent, row, currency, s) {
+    if !right_for(parent, row, currency, s) {
         return Judgement::NotAllowed;
     }
     Judgement::Fine

@@ -1,7 +1,7 @@
 use mathlib.Core.List.{[], _∷_}
 use mathlib.Core.Path.{refl}
 use Rattle.paper.specs.Bytes.{bytes}
-use Rattle.paper.specs.Rows.{rows, row-of, leaf, group, group-under}
+use Rattle.paper.specs.Rows.{rows, leaf, group, group-under, name-in, name}
 use Rattle.routes.specs.Finds.{names-of, along}
 use Rattle.alike.proofs.Alike.{in-payment-found}
 use borrow.Author.Needs.{needs}
@@ -30,7 +30,7 @@ child-under-requires : tie.Need-child-under-requires
 child-under-requires c κs = search needs
 
 returns : tie.Need-returns
-unfolding names-of row-of rows leaf group group-under bytes along
+unfolding names-of name name-in rows leaf group group-under bytes along
 returns c = in-payment-found (48 ∷ 50 ∷ 51 ∷ 52 ∷ 54 ∷ []) refl (λ t next l. c .child-under .ensures _ (c .before .before .follow4 .ensures t next l))
 
 pub issuer-spec : {M : Type 1} → statement M

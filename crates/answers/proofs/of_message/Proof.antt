@@ -1,5 +1,5 @@
-use Rattle.answers.specs.Numbers.{as-returned}
-use Rattle.answers.proofs.Laws.{message-returned, accepted-returned}
+use Rattle.answers.specs.Numbers.{as-answer}
+use Rattle.answers.proofs.Laws.{message-answer, accepted-answer}
 use borrow.Author.Needs.{needs}
 use Rattle.answers.proofs.of_message.Statement.{statement}
 use Rattle.answers.proofs.of_message.Tie as tie
@@ -17,12 +17,12 @@ refusal-of-requires : tie.Need-refusal-of-requires
 refusal-of-requires c κs = search needs
 
 returns : tie.Need-returns
-unfolding as-returned
-returns c = accepted-returned (c .before .verdict .given .1)
+unfolding as-answer
+returns c = accepted-answer (c .before .verdict .given .1)
 
 returns-2 : tie.Need-returns-2
-unfolding as-returned
-returns-2 c = message-returned (c .before .before .verdict2 .given .0 .0) (c .refusal-of .ensures) (c .before .before .verdict2 .given .1)
+unfolding as-answer
+returns-2 c = message-answer (c .before .before .verdict2 .given .0 .0) (c .refusal-of .ensures) (c .before .before .verdict2 .given .1)
 
 pub of-message-spec : {M : Type 1} → statement M
 of-message-spec =

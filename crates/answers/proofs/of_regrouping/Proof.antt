@@ -1,5 +1,5 @@
 use mathlib.Core.Path.{refl}
-use Rattle.paper.specs.Answers.{regrouping-of}
+use Rattle.paper.specs.Answers.{regrouping-says}
 use Rattle.answers.proofs.Laws.{as-answered}
 use borrow.Author.Needs.{needs}
 use Rattle.answers.proofs.of_regrouping.Statement.{statement}
@@ -64,39 +64,39 @@ answered-requires-7 : tie.Need-answered-requires-7
 answered-requires-7 c κs = search needs
 
 returns : tie.Need-returns
-unfolding regrouping-of
+unfolding regrouping-says
 returns c = as-answered (c .before .enum-told .given .1) (c .answered .ensures) refl
 
 returns-2 : tie.Need-returns-2
-unfolding regrouping-of
+unfolding regrouping-says
 returns-2 c = as-answered (c .before .before .answer .given .1) (c .refused-of .ensures) refl
 
 returns-3 : tie.Need-returns-3
-unfolding regrouping-of
+unfolding regrouping-says
 returns-3 c = as-answered (c .before .before .answer2 .given .1) (c .refused-of2 .ensures) refl
 
 returns-4 : tie.Need-returns-4
-unfolding regrouping-of
+unfolding regrouping-says
 returns-4 c = as-answered (c .before .enum-told2 .given .1) (c .answered2 .ensures) refl
 
 returns-5 : tie.Need-returns-5
-unfolding regrouping-of
+unfolding regrouping-says
 returns-5 c = as-answered (c .before .enum-told3 .given .1) (c .answered3 .ensures) refl
 
 returns-6 : tie.Need-returns-6
-unfolding regrouping-of
+unfolding regrouping-says
 returns-6 c = as-answered (c .before .enum-told4 .given .1) (c .answered4 .ensures) refl
 
 returns-7 : tie.Need-returns-7
-unfolding regrouping-of
+unfolding regrouping-says
 returns-7 c = as-answered (c .before .before .answer3 .given .1) (c .answered5 .ensures) refl
 
 returns-8 : tie.Need-returns-8
-unfolding regrouping-of
+unfolding regrouping-says
 returns-8 c = as-answered (c .before .before .answer4 .given .1) (c .answered6 .ensures) refl
 
 returns-9 : tie.Need-returns-9
-unfolding regrouping-of
+unfolding regrouping-says
 returns-9 c = as-answered (c .before .before .answer5 .given .1) (c .answered7 .ensures) refl
 
 pub of-regrouping-spec : {M : Type 1} → statement M

@@ -1,5 +1,4 @@
 use mathlib.Core.Path.{refl}
-use Rattle.paper.specs.Refusals.{largest-message}
 use Rattle.paper.specs.Answers.{refusal-of, numbered}
 use Rattle.answers.proofs.Laws.{numbers}
 use borrow.Author.Needs.{needs}
@@ -100,63 +99,63 @@ at-requires-15 : tie.Need-at-requires-15
 at-requires-15 c κs = search needs
 
 returns : tie.Need-returns
-unfolding refusal-of numbered largest-message
+unfolding refusal-of numbered
 returns c = numbers (c .before .enum-told .given .1) (c .at .ensures) refl
 
 returns-2 : tie.Need-returns-2
-unfolding refusal-of numbered largest-message
+unfolding refusal-of numbered
 returns-2 c = numbers (c .before .enum-told2 .given .1) (c .at2 .ensures) refl
 
 returns-3 : tie.Need-returns-3
-unfolding refusal-of numbered largest-message
+unfolding refusal-of numbered
 returns-3 c = numbers (c .before .before .fault .given .1) (c .at3 .ensures) refl
 
 returns-4 : tie.Need-returns-4
-unfolding refusal-of numbered largest-message
+unfolding refusal-of numbered
 returns-4 c = numbers (c .before .before .fault2 .given .1) (c .at4 .ensures) refl
 
 returns-5 : tie.Need-returns-5
-unfolding refusal-of numbered largest-message
+unfolding refusal-of numbered
 returns-5 c = numbers (c .before .before .fault3 .given .1) (c .at5 .ensures) refl
 
 returns-6 : tie.Need-returns-6
-unfolding refusal-of numbered largest-message
+unfolding refusal-of numbered
 returns-6 c = numbers (c .before .before .fault4 .given .1) (c .at6 .ensures) refl
 
 returns-7 : tie.Need-returns-7
-unfolding refusal-of numbered largest-message
+unfolding refusal-of numbered
 returns-7 c = numbers (c .before .before .fault5 .given .1) (c .at7 .ensures) refl
 
 returns-8 : tie.Need-returns-8
-unfolding refusal-of numbered largest-message
+unfolding refusal-of numbered
 returns-8 c = numbers (c .before .before .fault6 .given .1) (c .at8 .ensures) refl
 
 returns-9 : tie.Need-returns-9
-unfolding refusal-of numbered largest-message
+unfolding refusal-of numbered
 returns-9 c = numbers (c .before .before .fault7 .given .1) (c .at9 .ensures) refl
 
 returns-10 : tie.Need-returns-10
-unfolding refusal-of numbered largest-message
+unfolding refusal-of numbered
 returns-10 c = numbers (c .before .before .fault8 .given .1) (c .at10 .ensures) refl
 
 returns-11 : tie.Need-returns-11
-unfolding refusal-of numbered largest-message
+unfolding refusal-of numbered
 returns-11 c = numbers (c .before .before .fault9 .given .1) (c .at11 .ensures) refl
 
 returns-12 : tie.Need-returns-12
-unfolding refusal-of numbered largest-message
+unfolding refusal-of numbered
 returns-12 c = numbers (c .before .before .fault10 .given .1) (c .at12 .ensures) refl
 
 returns-13 : tie.Need-returns-13
-unfolding refusal-of numbered largest-message
+unfolding refusal-of numbered
 returns-13 c = numbers (c .before .before .fault11 .given .1) (c .at13 .ensures) refl
 
 returns-14 : tie.Need-returns-14
-unfolding refusal-of numbered largest-message
+unfolding refusal-of numbered
 returns-14 c = numbers (c .before .before .fault12 .given .1) (c .at14 .ensures) refl
 
 returns-15 : tie.Need-returns-15
-unfolding refusal-of numbered largest-message
+unfolding refusal-of numbered
 returns-15 c = numbers (c .before .before .fault13 .given .1) (c .at15 .ensures) refl
 
 pub refusal-of-spec : {M : Type 1} → statement M

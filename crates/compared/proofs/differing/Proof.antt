@@ -4,7 +4,6 @@ use borrow.Author.Needs.{needs}
 use native.Mathlib.Omega.{arith}
 use Prim.Native.Nat.{_-_, _≤_}
 use mathlib.Core.Path.{_≡_, refl, sym, _∙_}
-use Rattle.paper.specs.Rows.{rows}
 use Rattle.paper.specs.Payments.{Payment}
 use Rattle.paper.specs.Fields.{values-of, differ-from}
 use Rattle.compared.specs.Compared.{Stands, lowest}
@@ -14,7 +13,7 @@ use Rattle.compared.proofs.differing.Tie as tie
 abbrev Inv-loop : tie.InvT-loop
 Inv-loop s1 tree1 own1 block1 s2 tree2 own2 block2 field₀ field =
     (1 ≤ field) × (field ≤ 18) × ((p q : Payment) → Stands s1 tree1 own1 block1 p → Stands s2 tree2 own2 block2 q
-    → differ-from 1 (values-of rows p) (values-of rows q) ≡ from-field field p q)
+    → differ-from 1 (values-of p) (values-of q) ≡ from-field field p q)
 
 abbrev μ-loop : tie.MeasureT-loop
 μ-loop s1 tree1 own1 block1 s2 tree2 own2 block2 field₀ field = 18 - field

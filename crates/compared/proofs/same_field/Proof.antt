@@ -1,4 +1,4 @@
-use Rattle.compared.proofs.Compared.{remittance-field, batch-field, priority-field, amount-field, amount-element, plain-field}
+use Rattle.compared.proofs.Compared.{remittance-field, batch-field, priority-field, cents-field, amount-element, plain-field}
 use Rattle.paper.specs.Bytes.{bytes}
 use borrow.Author.Needs.{needs}
 use Rattle.compared.proofs.same_field.Statement.{statement}
@@ -36,14 +36,11 @@ returns-3 : tie.Need-returns-3
 unfolding bytes
 returns-3 c = λ p q g h a b. priority-field p q (c .before .before .if3 .taken) (c .same-or2 .ensures _ _ (c .before .before .before .before .before .field-at .ensures p (g .own-next) (g .block-next) (g .own-is) (g .block-is)) (c .before .before .before .before .field-at2 .ensures q (h .own-next) (h .block-next) (h .own-is) (h .block-is)))
 
-cents-requires : tie.Need-cents-requires
-cents-requires c κs = search needs
-
-cents-requires-2 : tie.Need-cents-requires-2
-cents-requires-2 c κs = search needs
+same-cents-requires : tie.Need-same-cents-requires
+same-cents-requires c κs = search needs
 
 returns-4 : tie.Need-returns-4
-returns-4 c = λ p q g h a b. amount-field p q (c .before .before .if4 .taken) (c .before .cents .ensures _ (c .before .before .before .before .before .before .field-at .ensures p (g .own-next) (g .block-next) (g .own-is) (g .block-is)) (amount-element p (c .before .before .if4 .taken) (g .amount-is))) (c .cents2 .ensures _ (c .before .before .before .before .before .field-at2 .ensures q (h .own-next) (h .block-next) (h .own-is) (h .block-is)) (amount-element q (c .before .before .if4 .taken) (h .amount-is)))
+returns-4 c = λ p q g h a b. cents-field p q (c .before .if4 .taken) (c .same-cents .ensures _ _ (c .before .before .before .before .before .field-at .ensures p (g .own-next) (g .block-next) (g .own-is) (g .block-is)) (c .before .before .before .before .field-at2 .ensures q (h .own-next) (h .block-next) (h .own-is) (h .block-is)) (amount-element p (c .before .if4 .taken) (g .amount-is)) (amount-element q (c .before .if4 .taken) (h .amount-is)))
 
 same-given-requires : tie.Need-same-given-requires
 same-given-requires c κs = search needs
@@ -65,8 +62,7 @@ same-field-spec =
     slice-aggregate-same-or-2
     same-or-requires-2
     returns-3
-    cents-requires
-    cents-requires-2
+    same-cents-requires
     returns-4
     same-given-requires
     returns-5)

@@ -17,7 +17,8 @@ enum-told : tie.Need-enum-told
 enum-told c = search needs
 
 returns : tie.Need-returns
-returns c = λ o h read. leaf-absent (λ w. eqb (number w) (c .before .before .before .before .args .n)) 12 (c .before .before .before .before .args .row) h (c .enum-told .given .1)
+unfolding refusal-of
+returns c = λ o h read. leaf-absent (λ w. eqb (number w) (c .before .before .before .before .args .n)) 12 (c .before .before .before .before .args .row) h (CountDiffers _ _) (c .enum-told .given .1) refl
 
 count-at-requires : tie.Need-count-at-requires
 count-at-requires c κs = search needs

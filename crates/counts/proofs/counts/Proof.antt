@@ -1,5 +1,4 @@
 use mathlib.Core.Path.{_∙_}
-use Rattle.paper.specs.Rows.{rows}
 use Rattle.paper.specs.Payments.{blocks as all-blocks}
 use Rattle.counts.proofs.EachBlock.{both-found, all-from, whole-is}
 use borrow.Author.Needs.{needs}
@@ -16,7 +15,7 @@ first-found-requires : tie.Need-first-found-requires
 first-found-requires c κs = search needs
 
 returns : tie.Need-returns
-returns c = λ root next l o bs ps few d read. both-found _ _ _ (c .first-found .ensures) (c .before .before .in-header .ensures root next l (read .header-count) (read .header-sum)) (c .before .in-blocks .ensures (all-blocks rows root) (all-from o bs ps few read)) ∙ whole-is root ps d
+returns c = λ root next l o bs ps few d read. both-found _ _ _ (c .first-found .ensures) (c .before .before .in-header .ensures root next l (read .header-count) (read .header-sum)) (c .before .in-blocks .ensures (all-blocks root) (all-from o bs ps few read)) ∙ whole-is root ps d
 
 pub counts-spec : {M : Type 1} → statement M
 counts-spec =

@@ -1,7 +1,7 @@
 use native.Mathlib.Omega.{arith}
 use mathlib.Core.Path.{refl, _∙_}
 use Rattle.paper.specs.Bytes.{bytes}
-use Rattle.paper.specs.Rows.{rows, row-of, leaf, group, group-under}
+use Rattle.paper.specs.Rows.{rows, leaf, group, group-under, name-in, name}
 use Rattle.leaves.proofs.Leaves.{row-found}
 use Rattle.totals.proofs.Amounts.{amounts}
 use Rattle.counts.proofs.EachBlock.{both-found, block-is}
@@ -37,8 +37,8 @@ first-found-requires : tie.Need-first-found-requires
 first-found-requires c κs = search needs
 
 returns-2 : tie.Need-returns-2
-unfolding rows row-of leaf group group-under bytes
-returns-2 c = λ b next ps l a e f owns read reads. both-found _ _ _ (c .first-found .ensures) (c .before .before .before .before .before .count-is .ensures _ (row-found b 10 14 refl (c .before .before .before .before .before .before .child .ensures b next l)) (read .count)) (c .before .sum-is .ensures _ (amounts ps) (row-found b 10 15 refl (c .before .before .before .child2 .ensures b next l)) (read .sum) (c .before .before .sum-of .ensures ps a e f reads)) ∙ block-is b ps _ e owns
+unfolding name name-in rows leaf group group-under bytes
+returns-2 c = λ b next ps l a e f owns read reads. both-found _ _ _ (c .first-found .ensures) (c .before .before .before .before .before .count-is .ensures _ (row-found b 14 refl (c .before .before .before .before .before .before .child .ensures b next l)) (read .count)) (c .before .sum-is .ensures _ (amounts ps) (row-found b 15 refl (c .before .before .before .child2 .ensures b next l)) (read .sum) (c .before .before .sum-of .ensures ps a e f reads)) ∙ block-is b ps _ e owns
 
 pub in-block-spec : {M : Type 1} → statement M
 in-block-spec =

@@ -1,7 +1,7 @@
 use mathlib.Core.Path.{refl}
 use mathlib.Core.List.{[], _∷_}
 use Rattle.paper.specs.Bytes.{bytes}
-use Rattle.paper.specs.Rows.{rows, row-of, leaf, group, group-under}
+use Rattle.paper.specs.Rows.{rows, leaf, group, group-under, name-in, name}
 use Rattle.routes.specs.Finds.{names-of, along, child-under}
 use Rattle.paper.specs.Payments.{of-header}
 use Rattle.totals.specs.Totals.{sums-to}
@@ -46,8 +46,8 @@ first-found-requires : tie.Need-first-found-requires
 first-found-requires c κs = search needs
 
 returns : tie.Need-returns
-unfolding rows row-of leaf group group-under bytes names-of along child-under of-header header-refusal
-returns c = λ root next l count sum. both-found _ _ _ (c .first-found .ensures) (c .before .before .before .before .before .before .count-is .ensures _ (route-found root 1 (2 ∷ 3 ∷ 6 ∷ []) refl (c .before .before .before .before .before .before .before .follow3 .ensures root next l)) count) (c .before .sum-is .ensures _ (c .before .before .before .before .before .before .before .before .before .before .before .before .before .args .total) (route-found root 1 (2 ∷ 3 ∷ 7 ∷ []) refl (c .before .before .follow32 .ensures root next l)) sum (sums-to refl (search needs)))
+unfolding name name-in rows leaf group group-under bytes names-of along child-under of-header header-refusal
+returns c = λ root next l count sum. both-found _ _ _ (c .first-found .ensures) (c .before .before .before .before .before .before .count-is .ensures _ (route-found root (2 ∷ 3 ∷ 6 ∷ []) refl (c .before .before .before .before .before .before .before .follow3 .ensures root next l)) count) (c .before .sum-is .ensures _ (c .before .before .before .before .before .before .before .before .before .before .before .before .before .args .total) (route-found root (2 ∷ 3 ∷ 7 ∷ []) refl (c .before .before .follow32 .ensures root next l)) sum (sums-to refl (search needs)))
 
 pub in-header-spec : {M : Type 1} → statement M
 in-header-spec =

@@ -16,7 +16,8 @@ enum-told : tie.Need-enum-told
 enum-told c = search needs
 
 returns : tie.Need-returns
-returns c = λ o n h read sums. leaf-absent (λ w. eqb (cents w) n) 13 (c .before .before .before .before .args .row) h (c .enum-told .given .1)
+unfolding refusal-of
+returns c = λ o n h read sums. leaf-absent (λ w. eqb (cents w) n) 13 (c .before .before .before .before .args .row) h (SumDiffers _ _) (c .enum-told .given .1) refl
 
 cents-at-requires : tie.Need-cents-at-requires
 cents-at-requires c κs = search needs

@@ -2,8 +2,8 @@ use borrow.Author.Needs.{needs}
 use mathlib.Core.List.{[], _∷_}
 use mathlib.Core.Path.{refl}
 use Rattle.paper.specs.Bytes.{bytes}
-use Rattle.paper.specs.Rows.{rows, row-of, leaf, group, group-under}
-use Rattle.paper.specs.Fields.{field-elements, field-element}
+use Rattle.paper.specs.Rows.{rows, leaf, group, group-under, name-in, name}
+use Rattle.paper.specs.Fields.{plain, or-means, amount-field, remittance, fields, field-element}
 use Rattle.routes.specs.Finds.{names-of}
 use Rattle.fields.proofs.Fields.{own-field, remittance-field, above, past-fields}
 use Rattle.fields.proofs.payment_field.Statement.{statement}
@@ -19,7 +19,7 @@ follow2-requires : tie.Need-follow2-requires
 follow2-requires c κs = search needs
 
 returns : tie.Need-returns
-unfolding field-element field-elements names-of row-of rows leaf group group-under bytes
+unfolding field-element fields plain or-means amount-field remittance names-of name name-in rows leaf group group-under bytes
 returns c = λ h. own-field 9 (38 ∷ 39 ∷ []) (λ p. refl) refl (c .follow2 .ensures) (c .before .before .before .if1 .taken)
 
 slice-aggregate-follow2-3 : tie.Need-slice-aggregate-follow2-3
@@ -32,7 +32,7 @@ follow2-requires-2 : tie.Need-follow2-requires-2
 follow2-requires-2 c κs = search needs
 
 returns-2 : tie.Need-returns-2
-unfolding field-element field-elements names-of row-of rows leaf group group-under bytes
+unfolding field-element fields plain or-means amount-field remittance names-of name name-in rows leaf group group-under bytes
 returns-2 c = λ h. own-field 10 (38 ∷ 40 ∷ []) (λ p. refl) refl (c .follow22 .ensures) (c .before .before .before .if2 .taken)
 
 slice-aggregate-follow2-5 : tie.Need-slice-aggregate-follow2-5
@@ -45,7 +45,7 @@ follow2-requires-3 : tie.Need-follow2-requires-3
 follow2-requires-3 c κs = search needs
 
 returns-3 : tie.Need-returns-3
-unfolding field-element field-elements names-of row-of rows leaf group group-under bytes
+unfolding field-element fields plain or-means amount-field remittance names-of name name-in rows leaf group group-under bytes
 returns-3 c = λ h. own-field 11 (41 ∷ 42 ∷ []) (λ p. refl) refl (c .follow23 .ensures) (c .before .before .before .if3 .taken)
 
 slice-aggregate-follow3 : tie.Need-slice-aggregate-follow3
@@ -61,7 +61,7 @@ follow3-requires : tie.Need-follow3-requires
 follow3-requires c κs = search needs
 
 returns-4 : tie.Need-returns-4
-unfolding field-element field-elements names-of row-of rows leaf group group-under bytes
+unfolding field-element fields plain or-means amount-field remittance names-of name name-in rows leaf group group-under bytes
 returns-4 c = λ h. own-field 12 (43 ∷ 30 ∷ 31 ∷ []) (λ p. refl) refl (c .follow3 .ensures) (c .before .before .before .before .if4 .taken)
 
 slice-aggregate-follow2-7 : tie.Need-slice-aggregate-follow2-7
@@ -74,7 +74,7 @@ follow2-requires-4 : tie.Need-follow2-requires-4
 follow2-requires-4 c κs = search needs
 
 returns-5 : tie.Need-returns-5
-unfolding field-element field-elements names-of row-of rows leaf group group-under bytes
+unfolding field-element fields plain or-means amount-field remittance names-of name name-in rows leaf group group-under bytes
 returns-5 c = λ h. own-field 13 (44 ∷ 25 ∷ []) (λ p. refl) refl (c .follow24 .ensures) (c .before .before .before .if5 .taken)
 
 slice-aggregate-follow3-4 : tie.Need-slice-aggregate-follow3-4
@@ -90,7 +90,7 @@ follow3-requires-2 : tie.Need-follow3-requires-2
 follow3-requires-2 c κs = search needs
 
 returns-6 : tie.Need-returns-6
-unfolding field-element field-elements names-of row-of rows leaf group group-under bytes
+unfolding field-element fields plain or-means amount-field remittance names-of name name-in rows leaf group group-under bytes
 returns-6 c = λ h. own-field 14 (45 ∷ 27 ∷ 28 ∷ []) (λ p. refl) refl (c .follow32 .ensures) (c .before .before .before .before .if6 .taken)
 
 slice-aggregate-follow2-9 : tie.Need-slice-aggregate-follow2-9
@@ -103,7 +103,7 @@ follow2-requires-5 : tie.Need-follow2-requires-5
 follow2-requires-5 c κs = search needs
 
 returns-7 : tie.Need-returns-7
-unfolding field-element field-elements names-of row-of rows leaf group group-under bytes
+unfolding field-element fields plain or-means amount-field remittance names-of name name-in rows leaf group group-under bytes
 returns-7 c = λ h. own-field 15 (46 ∷ 35 ∷ []) (λ p. refl) refl (c .follow25 .ensures) (c .before .before .before .if7 .taken)
 
 slice-aggregate-follow2-11 : tie.Need-slice-aggregate-follow2-11
@@ -116,7 +116,7 @@ follow2-requires-6 : tie.Need-follow2-requires-6
 follow2-requires-6 c κs = search needs
 
 returns-8 : tie.Need-returns-8
-unfolding field-element field-elements names-of row-of rows leaf group group-under bytes
+unfolding field-element fields plain or-means amount-field remittance names-of name name-in rows leaf group group-under bytes
 returns-8 c = λ h. own-field 16 (47 ∷ 21 ∷ []) (λ p. refl) refl (c .follow26 .ensures) (c .before .before .before .if8 .taken)
 
 remittance-requires : tie.Need-remittance-requires

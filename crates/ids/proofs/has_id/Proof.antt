@@ -1,6 +1,6 @@
 use mathlib.Core.Path.{refl}
 use Rattle.paper.specs.Bytes.{bytes}
-use Rattle.paper.specs.Rows.{rows, row-of, leaf, group, group-under}
+use Rattle.paper.specs.Rows.{rows, leaf, group, group-under, name-in, name}
 use Rattle.paper.specs.Payments.{text-of}
 use Rattle.leaves.proofs.Leaves.{row-found}
 use Rattle.ids.proofs.Repeats.{id-absent, id-there}
@@ -21,8 +21,8 @@ enum-told : tie.Need-enum-told
 enum-told c = search needs
 
 returns : tie.Need-returns
-unfolding rows row-of leaf group group-under bytes
-returns c = λ b t m n lb lt. id-absent (text-of t) (row-found b 10 11 refl (c .before .before .child .ensures b m lb)) (c .enum-told .given .1)
+unfolding name name-in rows leaf group group-under bytes
+returns c = λ b t m n lb lt. id-absent (text-of t) (row-found b 11 refl (c .before .before .child .ensures b m lb)) (c .enum-told .given .1)
 
 text-requires : tie.Need-text-requires
 text-requires c κs = search needs
@@ -34,8 +34,8 @@ same-requires : tie.Need-same-requires
 same-requires c κs = search needs
 
 returns-2 : tie.Need-returns-2
-unfolding rows row-of leaf group group-under bytes
-returns-2 c = λ b t m n lb lt. id-there (text-of t) (row-found b 10 11 refl (c .before .before .before .before .before .before .child .ensures b m lb)) (c .before .before .before .before .found .given .1) (c .before .before .text .ensures t n lt) (c .before .text2 .ensures) (c .same .ensures)
+unfolding name name-in rows leaf group group-under bytes
+returns-2 c = λ b t m n lb lt. id-there (text-of t) (row-found b 11 refl (c .before .before .before .before .before .before .child .ensures b m lb)) (c .before .before .before .before .found .given .1) (c .before .before .text .ensures t n lt) (c .before .text2 .ensures) (c .same .ensures)
 
 pub has-id-spec : {M : Type 1} → statement M
 has-id-spec =

@@ -3,7 +3,6 @@ use Prim.Native.Nat.{_-_}
 use mathlib.Core.Path.{_≡_}
 use lib.ListN.{length}
 use Rattle.paper.specs.Form.{Element}
-use Rattle.paper.specs.Rows.{rows}
 use Rattle.paper.specs.Payments.{blocks as all-blocks}
 use Rattle.order.specs.Ordered.{Ordered}
 use Rattle.ids.proofs.Repeats.{BeforeId, before-ids, no-id-left, id-refused, id-passed}
@@ -11,7 +10,7 @@ use Rattle.ids.proofs.ids.Statement.{statement}
 use Rattle.ids.proofs.ids.Tie as tie
 
 abbrev Inv-loop : tie.InvT-loop
-Inv-loop s tree out blocks k₀ k = (root : Element) → Ordered s tree out root → blocks ≡ length (all-blocks rows root) → BeforeId s tree out root k blocks
+Inv-loop s tree out blocks k₀ k = (root : Element) → Ordered s tree out root → blocks ≡ length (all-blocks root) → BeforeId s tree out root k blocks
 
 abbrev μ-loop : tie.MeasureT-loop
 μ-loop s tree out blocks k₀ k = blocks - k

@@ -3,7 +3,7 @@ use Prim.Native.Nat.{ℕ, _-_}
 use mathlib.Core.Path.{_≡_, refl, sym, ap, _∙_}
 use mathlib.Core.Option.{some}
 use denote.Ref.{now}
-use Rattle.paper.specs.Refusals.{missing}
+use Rattle.paper.specs.Refusals.{missing-of}
 use Rattle.places.specs.Numbers.{of-entry, places-between}
 use Rattle.places.specs.Seek.{lacking}
 use Rattle.places.proofs.Places.{missing-goes, missing-stops, missing-ends}
@@ -11,7 +11,7 @@ use Rattle.places.proofs.missing.Statement.{statement}
 use Rattle.places.proofs.missing.Tie as tie
 
 abbrev Inv-loop : tie.InvT-loop
-Inv-loop rows places from to p₀ p = missing (places-between rows places from to) ≡ missing (places-between rows places p to)
+Inv-loop rows places from to p₀ p = missing-of (places-between rows places from to) ≡ missing-of (places-between rows places p to)
 
 abbrev μ-loop : tie.MeasureT-loop
 μ-loop rows places from to p₀ p = to - p

@@ -2,7 +2,7 @@ use native.Mathlib.Omega.{arith}
 use denote.Ref.{now}
 use Prim.Native.Nat.{ℕ}
 use lib.ListN.{length-replicate}
-use Rattle.reader.proofs.Verdicts.{too-short, refused-answers, accepted-answers}
+use Rattle.reader.proofs.Verdicts.{too-short, refused-promise, accepted-promise}
 use borrow.Author.Needs.{needs}
 use Rattle.reader.proofs.verdict.Statement.{statement}
 use Rattle.reader.proofs.verdict.Tie as tie
@@ -39,13 +39,13 @@ fill-requires : tie.Need-fill-requires
 fill-requires c κs = search needs
 
 returns-2 : tie.Need-returns-2
-returns-2 c = refused-answers (c .before .before .before .before .before .before .before .before .if1 .left) (c .before .before .before .before .before .outcome .ensures (omega (arith, length-replicate {A = ℕ} 54615 0)) (omega (arith, length-replicate {A = ℕ} 208 0))) (c .before .found .given .1)
+returns-2 c = refused-promise (c .before .before .before .before .before .before .before .before .if1 .left) (c .before .before .before .before .before .outcome .ensures (omega (arith, length-replicate {A = ℕ} 54615 0)) (omega (arith, length-replicate {A = ℕ} 208 0))) (c .before .found .given .1)
 
 same-length : tie.Need-same-length
 same-length c = search needs
 
 returns-3 : tie.Need-returns-3
-returns-3 c = accepted-answers (c .before .before .before .before .before .before .before .before .before .before .before .before .before .before .if1 .left) (c .before .before .before .before .before .before .before .before .before .before .before .outcome .ensures (omega (arith, length-replicate {A = ℕ} 54615 0)) (omega (arith, length-replicate {A = ℕ} 208 0))) (c .before .before .before .before .before .before .before .found2 .given .1) (c .before .before .fill .ensures)
+returns-3 c = accepted-promise (c .before .before .before .before .before .before .before .before .before .before .before .before .before .before .if1 .left) (c .before .before .before .before .before .before .before .before .before .before .before .outcome .ensures (omega (arith, length-replicate {A = ℕ} 54615 0)) (omega (arith, length-replicate {A = ℕ} 208 0))) (c .before .before .before .before .before .before .before .found2 .given .1) (c .before .before .fill .ensures)
 
 pub verdict-spec : {M : Type 1} → statement M
 verdict-spec =

@@ -1,6 +1,6 @@
 use mathlib.Core.Path.{sym, ap}
-use Rattle.paper.specs.Answers.{regrouping-of}
-use Rattle.moves.specs.Pairs.{answer-of}
+use Rattle.paper.specs.Answers.{regrouping-says}
+use Rattle.moves.specs.Pairs.{pairs-say}
 use borrow.Author.Needs.{needs}
 use Rattle.regrouping.proofs.paired_as.Statement.{statement}
 use Rattle.regrouping.proofs.paired_as.Tie as tie
@@ -20,20 +20,20 @@ enum-known-paired-3 : tie.Need-enum-known-paired-3
 enum-known-paired-3 c = search needs
 
 returns : tie.Need-returns
-unfolding regrouping-of answer-of
-returns c = sym (ap answer-of (c .enum-told .given .1))
+unfolding regrouping-says pairs-say
+returns c = sym (ap pairs-say (c .enum-told .given .1))
 
 returns-2 : tie.Need-returns-2
-unfolding regrouping-of answer-of
-returns-2 c = sym (ap answer-of (c .before .paired .given .1))
+unfolding regrouping-says pairs-say
+returns-2 c = sym (ap pairs-say (c .before .paired .given .1))
 
 returns-3 : tie.Need-returns-3
-unfolding regrouping-of answer-of
-returns-3 c = sym (ap answer-of (c .before .paired2 .given .1))
+unfolding regrouping-says pairs-say
+returns-3 c = sym (ap pairs-say (c .before .paired2 .given .1))
 
 returns-4 : tie.Need-returns-4
-unfolding regrouping-of answer-of
-returns-4 c = sym (ap answer-of (c .before .paired3 .given .1))
+unfolding regrouping-says pairs-say
+returns-4 c = sym (ap pairs-say (c .before .paired3 .given .1))
 
 pub paired-as-spec : {M : Type 1} → statement M
 paired-as-spec =

@@ -1,5 +1,6 @@
 use Rattle.rows.specs.Walk.{refusal-by}
-use Rattle.stages.proofs.OneWalk.{rows-too}
+use Rattle.paper.specs.Rows.{rows}
+use Rattle.acceptance.proofs.OneWalk.{rows-too}
 use Rattle.stages.proofs.InTurn.{rows-refused, rows-refused-first, no-rows-refusal, no-values-refusal, found-as}
 use borrow.Author.Needs.{needs}
 use Rattle.stages.proofs.stages.Statement.{statement}
@@ -50,7 +51,7 @@ same-length c = search needs
 
 returns-3 : tie.Need-returns-3
 unfolding refusal-by
-returns-3 c = λ root next l room. c .before .before .limited .ensures root next l room (rows-too root (no-values-refusal root (c .before .before .before .before .before .before .check .ensures root next l) (c .before .before .before .before .enum-told .given .1))) (found-as (c .before .before .before .before .before .before .check .ensures root next l) (c .before .before .before .before .enum-told .given .1))
+returns-3 c = λ root next l room. c .before .before .limited .ensures root next l room (rows-too rows root (no-values-refusal root (c .before .before .before .before .before .before .check .ensures root next l) (c .before .before .before .before .enum-told .given .1))) (found-as (c .before .before .before .before .before .before .check .ensures root next l) (c .before .before .before .before .enum-told .given .1))
 
 same-length-2 : tie.Need-same-length-2
 same-length-2 c = search needs

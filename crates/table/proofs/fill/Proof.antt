@@ -4,7 +4,6 @@ use borrow.Author.Needs.{needs}
 use mathlib.Core.Path.{_≡_, refl, _∙_}
 use lib.ListN.{length}
 use Rattle.paper.specs.Form.{Element}
-use Rattle.paper.specs.Rows.{rows}
 use Rattle.paper.specs.Payments.{payments}
 use Rattle.paper.specs.Accepted.{All}
 use Rattle.order.specs.Ordered.{Ordered}
@@ -20,8 +19,8 @@ use Rattle.tree.proofs.number.Reads as number-reads
 
 abbrev Inv-loop : tie.InvT-loop
 Inv-loop s tree order many table₀ k₀ table k =
-    (length table ≡ length table₀) × ((root : Element) → length s ≤ 32768 → Ordered s tree order root → many ≡ length (payments rows root) → many ≤ 64
-    → All Fitting (payments rows root) → 1024 ≤ length table₀ → Filled Fitting s tree order table₀ root many k table)
+    (length table ≡ length table₀) × ((root : Element) → length s ≤ 32768 → Ordered s tree order root → many ≡ length (payments root) → many ≤ 64
+    → All Fitting (payments root) → 1024 ≤ length table₀ → Filled Fitting s tree order table₀ root many k table)
 
 abbrev μ-loop : tie.MeasureT-loop
 μ-loop s tree order many table₀ k₀ table k = many - k

@@ -1,5 +1,5 @@
 use Rattle.paper.specs.Bytes.{bytes}
-use Rattle.paper.specs.Fields.{field-element, field-elements}
+use Rattle.paper.specs.Fields.{plain, or-means, amount-field, remittance, fields, field-element}
 use Rattle.table.proofs.Laws.{kind-found}
 use borrow.Author.Needs.{needs}
 use Rattle.table.proofs.spans_of.Statement.{statement}
@@ -50,7 +50,7 @@ span-of-requires-6 : tie.Need-span-of-requires-6
 span-of-requires-6 c κs = search needs
 
 returns : tie.Need-returns
-unfolding field-element field-elements bytes
+unfolding field-element fields plain or-means amount-field remittance bytes
 returns c = λ p m n l b. record { id = c .before .before .before .before .before .before .before .before .before .before .before .span-of .ensures _ _ (c .before .before .before .before .before .before .before .before .before .before .before .before .field-at .ensures p m n l b); creditor = c .before .before .before .before .before .before .before .before .before .span-of2 .ensures _ _ (c .before .before .before .before .before .before .before .before .before .before .field-at2 .ensures p m n l b); name = c .before .before .before .before .before .before .before .span-of3 .ensures _ _ (c .before .before .before .before .before .before .before .before .field-at3 .ensures p m n l b); ultimate = c .before .before .before .before .before .span-of4 .ensures _ _ (c .before .before .before .before .before .before .field-at4 .ensures p m n l b); kind = c .before .before .span-of5 .ensures _ _ (kind-found p (c .before .before .before .inherited1 .ensures (p .own) (p .block) m n l b)); debtor = c .span-of6 .ensures _ _ (c .before .field-at5 .ensures p m n l b) }
 
 pub spans-of-spec : {M : Type 1} → statement M

@@ -1,7 +1,7 @@
 use mathlib.Core.Path.{refl}
 use mathlib.Core.List.{[], _∷_}
 use Rattle.paper.specs.Bytes.{bytes}
-use Rattle.paper.specs.Rows.{rows, row-of, leaf, group, group-under}
+use Rattle.paper.specs.Rows.{rows, leaf, group, group-under, name-in, name}
 use Rattle.routes.specs.Finds.{names-of, along, child-under}
 use Rattle.leaves.proofs.Leaves.{route-found}
 use Rattle.totals.proofs.Amounts.{amount-absent, amount-there}
@@ -28,12 +28,12 @@ cents-at-requires : tie.Need-cents-at-requires
 cents-at-requires c κs = search needs
 
 returns : tie.Need-returns
-unfolding rows row-of leaf group group-under bytes names-of along child-under
-returns c = λ t next l read. amount-absent t (route-found t 37 (41 ∷ 42 ∷ []) refl (c .before .before .follow2 .ensures t next l)) (c .enum-told .given .1)
+unfolding name name-in rows leaf group group-under bytes names-of along child-under
+returns c = λ t next l read. amount-absent t (route-found t (41 ∷ 42 ∷ []) refl (c .before .before .follow2 .ensures t next l)) (c .enum-told .given .1)
 
 returns-2 : tie.Need-returns-2
-unfolding rows row-of leaf group group-under bytes names-of along child-under
-returns-2 c = λ t next l read. amount-there t (route-found t 37 (41 ∷ 42 ∷ []) refl (c .before .before .before .before .follow2 .ensures t next l)) (c .before .before .found .given .1) (c .cents-at .ensures) read
+unfolding name name-in rows leaf group group-under bytes names-of along child-under
+returns-2 c = λ t next l read. amount-there t (route-found t (41 ∷ 42 ∷ []) refl (c .before .before .before .before .follow2 .ensures t next l)) (c .before .before .found .given .1) (c .cents-at .ensures) read
 
 pub amount-spec : {M : Type 1} → statement M
 amount-spec =

@@ -1,7 +1,7 @@
 use mathlib.Core.Path.{refl}
 use mathlib.Core.List.{[], _∷_}
 use Rattle.paper.specs.Bytes.{bytes}
-use Rattle.paper.specs.Rows.{rows, row-of, leaf, group, group-under}
+use Rattle.paper.specs.Rows.{rows, leaf, group, group-under, name-in, name}
 use Rattle.routes.specs.Finds.{names-of, along, child-under}
 use Rattle.paper.specs.Payments.{of-header}
 use Rattle.leaves.proofs.Leaves.{route-found}
@@ -32,12 +32,12 @@ cell-requires : tie.Need-cell-requires
 cell-requires c κs = search needs
 
 returns : tie.Need-returns
-unfolding rows row-of leaf group group-under bytes names-of along child-under of-header
-returns c = λ root next l. at-nothing (route-found root 1 (2 ∷ 3 ∷ 7 ∷ []) refl (c .before .before .follow3 .ensures root next l)) (c .enum-told .given .1)
+unfolding name name-in rows leaf group group-under bytes names-of along child-under of-header
+returns c = λ root next l. at-nothing (route-found root (2 ∷ 3 ∷ 7 ∷ []) refl (c .before .before .follow3 .ensures root next l)) (c .enum-told .given .1)
 
 returns-2 : tie.Need-returns-2
-unfolding rows row-of leaf group group-under bytes names-of along child-under of-header
-returns-2 c = λ root next l. at-it (route-found root 1 (2 ∷ 3 ∷ 7 ∷ []) refl (c .before .before .before .before .follow3 .ensures root next l)) (c .before .before .found .given .1) (c .cell .ensures)
+unfolding name name-in rows leaf group group-under bytes names-of along child-under of-header
+returns-2 c = λ root next l. at-it (route-found root (2 ∷ 3 ∷ 7 ∷ []) refl (c .before .before .before .before .follow3 .ensures root next l)) (c .before .before .found .given .1) (c .cell .ensures)
 
 pub header-sum-at-spec : {M : Type 1} → statement M
 header-sum-at-spec =

@@ -2,7 +2,6 @@ use native.Mathlib.Omega.{arith}
 use mathlib.Core.Path.{_≡_}
 use Prim.Native.Nat.{_+_}
 use lib.ListN.{length}
-use Rattle.paper.specs.Rows.{rows}
 use Rattle.paper.specs.Payments.{payments as all-payments}
 use Rattle.totals.proofs.Amounts.{total-fits, total-exceeds}
 use borrow.Author.Needs.{needs}
@@ -22,10 +21,10 @@ header-sum-at-requires : tie.Need-header-sum-at-requires
 header-sum-at-requires c κs = search needs
 
 returns : tie.Need-returns
-returns c = λ root next l o e f read. total-fits (c .before .before .before .sum-of .ensures (all-payments rows root) (o .payments-at) (let x : c .before .before .before .before .before .before .before .args .payments ≡ 0 + length (all-payments rows root) = omega arith in x) f (read .in-payments)) (c .before .sum .given .1)
+returns c = λ root next l o e f read. total-fits (c .before .before .before .sum-of .ensures (all-payments root) (o .payments-at) (let x : c .before .before .before .before .before .before .before .args .payments ≡ 0 + length (all-payments root) = omega arith in x) f (read .in-payments)) (c .before .sum .given .1)
 
 returns-2 : tie.Need-returns-2
-returns-2 c = λ root next l o e f read. total-exceeds (c .before .before .before .sum-of .ensures (all-payments rows root) (o .payments-at) (let x : c .before .before .before .before .before .before .before .args .payments ≡ 0 + length (all-payments rows root) = omega arith in x) f (read .in-payments)) (c .before .enum-told .given .1) (c .header-sum-at .ensures root next l)
+returns-2 c = λ root next l o e f read. total-exceeds (c .before .before .before .sum-of .ensures (all-payments root) (o .payments-at) (let x : c .before .before .before .before .before .before .before .args .payments ≡ 0 + length (all-payments root) = omega arith in x) f (read .in-payments)) (c .before .enum-told .given .1) (c .header-sum-at .ensures root next l)
 
 pub total-cents-spec : {M : Type 1} → statement M
 total-cents-spec =

@@ -1,6 +1,6 @@
 use mathlib.Core.Path.{refl}
 use Rattle.paper.specs.Bytes.{bytes}
-use Rattle.paper.specs.Rows.{rows, row-of, leaf, group, group-under}
+use Rattle.paper.specs.Rows.{rows, leaf, group, group-under, name-in, name}
 use Rattle.usage.proofs.Laws.{own-there, block-there, neither}
 use borrow.Author.Needs.{needs}
 use Rattle.usage.proofs.in_neither.Statement.{statement}
@@ -20,8 +20,8 @@ enum-told : tie.Need-enum-told
 enum-told c = search needs
 
 returns : tie.Need-returns
-unfolding rows row-of leaf group group-under bytes
-returns c = λ p m n o b. own-there 16 p refl refl (c .before .before .child .ensures (p .own) m o) (c .enum-told .given .1)
+unfolding name name-in rows leaf group group-under bytes
+returns c = λ p m n o b. own-there 16 p refl (c .before .before .child .ensures (p .own) m o) (c .enum-told .given .1)
 
 enum-told-2 : tie.Need-enum-told-2
 enum-told-2 c = search needs
@@ -36,8 +36,8 @@ enum-told-3 : tie.Need-enum-told-3
 enum-told-3 c = search needs
 
 returns-2 : tie.Need-returns-2
-unfolding rows row-of leaf group group-under bytes
-returns-2 c = λ p m n o b. block-there 16 p refl refl (c .before .before .before .before .before .before .child .ensures (p .own) m o) (c .before .before .before .before .enum-told2 .given .1) (c .before .before .child2 .ensures (p .block) n b) (c .enum-told3 .given .1)
+unfolding name name-in rows leaf group group-under bytes
+returns-2 c = λ p m n o b. block-there 16 p refl (c .before .before .before .before .before .before .child .ensures (p .own) m o) (c .before .before .before .before .enum-told2 .given .1) (c .before .before .child2 .ensures (p .block) n b) (c .enum-told3 .given .1)
 
 enum-told-4 : tie.Need-enum-told-4
 enum-told-4 c = search needs
@@ -46,8 +46,8 @@ cell-requires : tie.Need-cell-requires
 cell-requires c κs = search needs
 
 returns-3 : tie.Need-returns-3
-unfolding rows row-of leaf group group-under bytes
-returns-3 c = λ p m n o b. neither p refl refl (c .before .before .before .before .before .before .before .child .ensures (p .own) m o) (c .before .before .before .before .before .enum-told2 .given .1) (c .before .before .before .child2 .ensures (p .block) n b) (c .before .enum-told4 .given .1) o (c .cell .ensures)
+unfolding name name-in rows leaf group group-under bytes
+returns-3 c = λ p m n o b. neither p refl (c .before .before .before .before .before .before .before .child .ensures (p .own) m o) (c .before .before .before .before .before .enum-told2 .given .1) (c .before .before .before .child2 .ensures (p .block) n b) (c .before .enum-told4 .given .1) o (c .cell .ensures)
 
 pub in-neither-spec : {M : Type 1} → statement M
 in-neither-spec =

@@ -4,7 +4,6 @@ use borrow.Author.Needs.{needs}
 use mathlib.Core.Path.{_≡_}
 use lib.ListN.{length}
 use Rattle.paper.specs.Form.{Element}
-use Rattle.paper.specs.Rows.{rows}
 use Rattle.paper.specs.Payments.{payments}
 use Rattle.order.specs.Ordered.{Ordered}
 use Rattle.usage.proofs.Walk.{Left, at-start, none-left, refused, passed}
@@ -16,7 +15,7 @@ use Rattle.tree.proofs.number.Reads as number-reads
 use Rattle.usage.proofs.in_payment.Reads as in-payment-reads
 
 abbrev Inv-loop : tie.InvT-loop
-Inv-loop s tree order many k₀ k = (root : Element) → Ordered s tree order root → many ≡ length (payments rows root) → Left s tree order root many k
+Inv-loop s tree order many k₀ k = (root : Element) → Ordered s tree order root → many ≡ length (payments root) → Left s tree order root many k
 
 abbrev μ-loop : tie.MeasureT-loop
 μ-loop s tree order many k₀ k = many - k

@@ -25,14 +25,14 @@ spaces-alone-requires c κs = search needs
 returns-4 : tie.Need-returns-4
 returns-4 c = spaces-judges _ _ _ _ _ (c .before .before .before .before .before .if1 .left) (c .before .before .before .before .if2 .left) (none-first value-character (c .before .before .before .before .before .before .before .before .args .s .now) (rw (← c .before .before .before .first-outside .ensures) (c .before .before .if3 .left))) (sym (c .before .spaces-alone .ensures) ∙ c .if4 .taken)
 
-allowed-requires : tie.Need-allowed-requires
-allowed-requires c κs = search needs
+right-for-requires : tie.Need-right-for-requires
+right-for-requires c κs = search needs
 
 returns-5 : tie.Need-returns-5
-returns-5 c = not-allowed-judges _ _ _ _ _ (c .before .before .before .before .before .before .before .if1 .left) (c .before .before .before .before .before .before .if2 .left) (none-first value-character (c .before .before .before .before .before .before .before .before .before .before .args .s .now) (rw (← c .before .before .before .before .before .first-outside .ensures) (c .before .before .before .before .if3 .left))) (sym (c .before .before .before .spaces-alone .ensures) ∙ c .before .before .if4 .left) (sym (c .before .allowed .ensures) ∙ not-true _ (c .if5 .taken))
+returns-5 c = not-allowed-judges _ _ _ _ _ (c .before .before .before .before .before .before .before .if1 .left) (c .before .before .before .before .before .before .if2 .left) (none-first value-character (c .before .before .before .before .before .before .before .before .before .before .args .s .now) (rw (← c .before .before .before .before .before .first-outside .ensures) (c .before .before .before .before .if3 .left))) (sym (c .before .before .before .spaces-alone .ensures) ∙ c .before .before .if4 .left) (sym (c .before .right-for .ensures) ∙ not-true _ (c .if5 .taken))
 
 returns-6 : tie.Need-returns-6
-returns-6 c = fine-judges _ _ _ _ _ (c .before .before .before .before .before .before .before .if1 .left) (c .before .before .before .before .before .before .if2 .left) (none-first value-character (c .before .before .before .before .before .before .before .before .before .before .args .s .now) (rw (← c .before .before .before .before .before .first-outside .ensures) (c .before .before .before .before .if3 .left))) (sym (c .before .before .before .spaces-alone .ensures) ∙ c .before .before .if4 .left) (sym (c .before .allowed .ensures) ∙ not-false _ (c .if5 .left))
+returns-6 c = fine-judges _ _ _ _ _ (c .before .before .before .before .before .before .before .if1 .left) (c .before .before .before .before .before .before .if2 .left) (none-first value-character (c .before .before .before .before .before .before .before .before .before .before .args .s .now) (rw (← c .before .before .before .before .before .first-outside .ensures) (c .before .before .before .before .if3 .left))) (sym (c .before .before .before .spaces-alone .ensures) ∙ c .before .before .if4 .left) (sym (c .before .right-for .ensures) ∙ not-false _ (c .if5 .left))
 
 pub leaf-spec : {M : Type 1} → statement M
 leaf-spec =
@@ -44,6 +44,6 @@ leaf-spec =
     returns-3
     spaces-alone-requires
     returns-4
-    allowed-requires
+    right-for-requires
     returns-5
     returns-6)

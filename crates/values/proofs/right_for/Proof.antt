@@ -2,10 +2,10 @@ use borrow.Author.Needs.{needs}
 use mathlib.Core.Path.{sym}
 use mathlib.Core.Logic.{⊎-elim, inl, inr}
 use Rattle.paper.specs.Bytes.{bytes}
-use Rattle.paper.specs.Values.{allowed, among}
+use Rattle.paper.specs.Values.{right-for, among}
 use Rattle.values.proofs.Laws.{free}
-use Rattle.values.proofs.allowed.Statement.{statement}
-use Rattle.values.proofs.allowed.Tie as tie
+use Rattle.values.proofs.right_for.Statement.{statement}
+use Rattle.values.proofs.right_for.Tie as tie
 
 id-requires : tie.Need-id-requires
 id-requires c κs = search needs
@@ -80,78 +80,78 @@ iban-requires : tie.Need-iban-requires
 iban-requires c κs = search needs
 
 returns : tie.Need-returns
-unfolding allowed among
+unfolding right-for among
 returns c = ⊎-elim (λ e. rw e (c .id .ensures)) (λ e. rw e (c .id .ensures)) (c .before .match .keys1)
 
 returns-2 : tie.Need-returns-2
-unfolding allowed among
+unfolding right-for among
 returns-2 c = rw (c .before .match .keys2) (c .id2 .ensures)
 
 returns-3 : tie.Need-returns-3
-unfolding allowed among
+unfolding right-for among
 returns-3 c = rw (c .before .match .keys3) (c .id3 .ensures)
 
 returns-4 : tie.Need-returns-4
-unfolding allowed among bytes
+unfolding right-for among bytes
 returns-4 c = rw (c .before .before .match .keys4) (c .same .ensures)
 
 returns-5 : tie.Need-returns-5
-unfolding allowed among bytes
+unfolding right-for among bytes
 returns-5 c = rw (c .before .before .before .match .keys5) (c .either .ensures)
 
 returns-6 : tie.Need-returns-6
-unfolding allowed among bytes
+unfolding right-for among bytes
 returns-6 c = rw (c .before .before .before .match .keys6) (c .either2 .ensures)
 
 returns-7 : tie.Need-returns-7
-unfolding allowed among
+unfolding right-for among
 returns-7 c = rw (c .before .match .keys7) (c .service .ensures)
 
 returns-8 : tie.Need-returns-8
-unfolding allowed among bytes
+unfolding right-for among bytes
 returns-8 c = rw (c .before .before .match .keys8) (c .same2 .ensures)
 
 returns-9 : tie.Need-returns-9
-unfolding allowed among bytes
+unfolding right-for among bytes
 returns-9 c = rw (c .before .before .match .keys9) (c .same3 .ensures)
 
 returns-10 : tie.Need-returns-10
-unfolding allowed among
+unfolding right-for among
 returns-10 c = rw (c .before .match .keys10) (c .purpose .ensures)
 
 returns-11 : tie.Need-returns-11
-unfolding allowed among
+unfolding right-for among
 returns-11 c = rw (c .before .match .keys11) (c .date .ensures)
 
 returns-12 : tie.Need-returns-12
-unfolding allowed among
+unfolding right-for among
 returns-12 c = rw (c .before .match .keys12) (c .date-and-time .ensures)
 
 returns-13 : tie.Need-returns-13
-unfolding allowed among
+unfolding right-for among
 returns-13 c = ⊎-elim (λ e. rw e (c .count .ensures)) (λ e. rw e (c .count .ensures)) (c .before .match .keys13)
 
 returns-14 : tie.Need-returns-14
-unfolding allowed among
+unfolding right-for among
 returns-14 c = ⊎-elim (λ e. rw e (c .money .ensures)) (λ e. rw e (c .money .ensures)) (c .before .match .keys14)
 
 returns-15 : tie.Need-returns-15
-unfolding allowed among
+unfolding right-for among
 returns-15 c = rw (c .before .match .keys15) (c .amount-in .ensures)
 
 returns-16 : tie.Need-returns-16
-unfolding allowed among
+unfolding right-for among
 returns-16 c = rw (c .before .match .keys16) (c .bic .ensures)
 
 returns-17 : tie.Need-returns-17
-unfolding allowed among
+unfolding right-for among
 returns-17 c = rw (c .before .match .keys17) (c .iban .ensures)
 
 returns-18 : tie.Need-returns-18
 returns-18 c = sym (free _ _ _ _ (λ e. c .match .rest .0 .0 .0 .0 .0 .0 .0 .0 .0 .0 .0 .0 .0 .0 .0 .0 .1 (inl e)) (λ e. c .match .rest .0 .0 .0 .0 .0 .0 .0 .0 .0 .0 .0 .0 .0 .0 .0 .0 .1 (inr e)) (c .match .rest .0 .0 .0 .0 .0 .0 .0 .0 .0 .0 .0 .0 .0 .0 .0 .1) (c .match .rest .0 .0 .0 .0 .0 .0 .0 .0 .0 .0 .0 .0 .0 .0 .1) (c .match .rest .0 .0 .0 .0 .0 .0 .0 .0 .0 .0 .0 .0 .0 .1) (c .match .rest .0 .0 .0 .0 .0 .0 .0 .0 .0 .0 .0 .0 .1) (c .match .rest .0 .0 .0 .0 .0 .0 .0 .0 .0 .0 .0 .1) (c .match .rest .0 .0 .0 .0 .0 .0 .0 .0 .0 .0 .1) (c .match .rest .0 .0 .0 .0 .0 .0 .0 .0 .0 .1) (c .match .rest .0 .0 .0 .0 .0 .0 .0 .0 .1) (c .match .rest .0 .0 .0 .0 .0 .0 .0 .1) (c .match .rest .0 .0 .0 .0 .0 .0 .1) (c .match .rest .0 .0 .0 .0 .0 .1) (λ e. c .match .rest .0 .0 .0 .0 .1 (inl e)) (λ e. c .match .rest .0 .0 .0 .0 .1 (inr e)) (λ e. c .match .rest .0 .0 .0 .1 (inl e)) (λ e. c .match .rest .0 .0 .0 .1 (inr e)) (c .match .rest .0 .0 .1) (c .match .rest .0 .1) (c .match .rest .1))
 
-pub allowed-spec : {M : Type 1} → statement M
-allowed-spec =
+pub right-for-spec : {M : Type 1} → statement M
+right-for-spec =
     tie.close
     (tie.spec
     id-requires
