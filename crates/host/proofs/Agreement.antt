@@ -11,6 +11,7 @@ use Rattle.paper.specs.Payments.{payments}
 use Rattle.paper.specs.Refusals.{Outcome, refused-as, accepted-with, MessageAnswer, refused, accepted, answer-to, outcome, verdict}
 use Rattle.paper.specs.Sizes.{least-table}
 use Rattle.paper.specs.Accepted.{All, Accepted}
+use Rattle.paper.specs.Regrouping.{RegroupingAnswer, regrouping, Regroups}
 use Rattle.paper.specs.Table.{over, written, table-after}
 use Rattle.paper.specs.Host.{four-bytes, numbers-held, bytes-after}
 use Rattle.acceptance.proofs.Proper.{rows-proper}
