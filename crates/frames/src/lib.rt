@@ -9,6 +9,12 @@ pub struct Part {
     pub end: usize,
 }
 
+// A part that is a number, and where the next part begins.
+pub struct Numbered {
+    pub value: usize,
+    pub next: usize,
+}
+
 // What a file of cases holds, as much as the buffer takes; nothing, and a line on standard error, where it can't be opened.
 pub fn load(path: &[u8], buffer: &mut [u8]) -> usize
     ensures { λ r. ⌜ Counts r (now (buffer .exit)) ⌝ }
@@ -46,7 +52,7 @@ fn wide(b: u8) -> usize
 }
 
 // The number whose digits stand from an offset to an offset, or the largest of 64 bits where it is larger.
-pub fn number(s: &[u8], at: usize, end: usize) -> usize
+fn number(s: &[u8], at: usize, end: usize) -> usize
     requires { ⌜ end ≤ length (now s) ⌝ }
 {
     let mut n = 0;
@@ -81,5 +87,14 @@ pub fn part_at(s: &[u8], at: usize) -> Part
     Part {
         start,
         end: start + size,
+    }
+}
+
+// The number that is the part at an offset.
+pub fn number_at(s: &[u8], at: usize) -> Numbered {
+    let digits = part_at(s, at);
+    Numbered {
+        value: number(s, digits.start, digits.end),
+        next: digits.end + 1,
     }
 }
