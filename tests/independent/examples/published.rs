@@ -3,24 +3,15 @@
 //!     cargo run --release --offline --example published FOLDER
 //!
 //! FOLDER/data/ gets four files of cases, FOLDER/stdout a line for each case. A case
-//! is `V` with name and message, or `R` with name, first, second and list, and a line
-//! feed; each part is its length in decimal, a `:`, its bytes and a `,`.
+//! is `V` with name and message, or `R` with name, first, second and list.
 
 #[path = "../tests/common/mod.rs"]
 mod common;
 
 use common::examples::*;
+use common::written::case;
 use independent::regroup;
 use std::path::Path;
-
-fn part(bytes: &[u8]) -> Vec<u8> {
-    [format!("{}:", bytes.len()).as_bytes(), bytes, b","].concat()
-}
-
-fn case(kind: &str, parts: &[&[u8]]) -> Vec<u8> {
-    let parts: Vec<u8> = parts.iter().flat_map(|bytes| part(bytes)).collect();
-    [kind.as_bytes(), &parts, b"\n"].concat()
-}
 
 fn main() -> std::io::Result<()> {
     let folder = std::env::args_os().nth(1).expect("the folder");
