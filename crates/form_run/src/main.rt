@@ -69,14 +69,7 @@ fn run(s: &[u8]) {
 }
 
 fn main() {
-    let path = b"cases";
-    let file = os::open_read(path);
-    if file < 0 {
-        os::fail(path);
-        return;
-    }
     let mut buffer = io::large_buffer();
-    let n = io::read_full(file, &mut buffer);
-    libc::close(file);
+    let n = frames::load(b"cases", &mut buffer);
     run(&buffer[..n]);
 }

@@ -1,11 +1,32 @@
-// The parts of a file of cases: each is its length in decimal, a `:`, its bytes and a `,`.
+// A file of cases, and the parts of a case: each is its length in decimal, a `:`, its bytes and a `,`.
 ghost use Prim.Native.Nat.{_≤_};
 ghost use lib.ListN.{length};
+ghost use Rattle.io.specs.Counts.{Counts};
 
 // Where the bytes of a part stand in the file.
 pub struct Part {
     pub start: usize,
     pub end: usize,
+}
+
+// A part that is a number, and where the next part begins.
+pub struct Numbered {
+    pub value: usize,
+    pub next: usize,
+}
+
+// What a file of cases holds, as much as the buffer takes; nothing, and a line on standard error, where it can't be opened.
+pub fn load(path: &[u8], buffer: &mut [u8]) -> usize
+    ensures { λ r. ⌜ Counts r (now (buffer .exit)) ⌝ }
+{
+    let file = os::open_read(path);
+    if file < 0 {
+        os::fail(path);
+        return 0;
+    }
+    let n = io::read_full(file, buffer);
+    libc::close(file);
+    n
 }
 
 fn digits_end(s: &[u8], at: usize) -> usize
@@ -30,18 +51,21 @@ fn wide(b: u8) -> usize
     b as usize
 }
 
-// The number of the bytes from an offset to an offset, or one above 10000 where it is too large.
+// The number whose digits stand from an offset to an offset, or the largest of 64 bits where it is larger.
 fn number(s: &[u8], at: usize, end: usize) -> usize
     requires { ⌜ end ≤ length (now s) ⌝ }
-    ensures { λ r. ⌜ r ≤ 200000 ⌝ }
 {
     let mut n = 0;
     let mut i = at;
     while i < end {
-        if n > 10000 {
-            return n;
+        let digit = wide(s[i] & 15);
+        if n > 1844674407370955161 {
+            return 18446744073709551615;
         }
-        n = n * 10 + wide(s[i] & 15);
+        if n * 10 > 18446744073709551615 - digit {
+            return 18446744073709551615;
+        }
+        n = n * 10 + digit;
         i += 1;
     }
     n
@@ -52,13 +76,25 @@ pub fn part_at(s: &[u8], at: usize) -> Part
     ensures { λ r. ⌜ (r .start ≤ r .end) × (r .end ≤ length (now (s .entry))) ⌝ }
 {
     let colon = digits_end(s, at);
-    let start = colon + 1;
-    let end = start + number(s, at, colon);
-    if end > s.len() {
+    let size = number(s, at, colon);
+    if s.len() - colon <= size {
         return Part {
             start: s.len(),
             end: s.len(),
         };
     }
-    Part { start, end }
+    let start = colon + 1;
+    Part {
+        start,
+        end: start + size,
+    }
+}
+
+// The number that is the part at an offset.
+pub fn number_at(s: &[u8], at: usize) -> Numbered {
+    let digits = part_at(s, at);
+    Numbered {
+        value: number(s, digits.start, digits.end),
+        next: digits.end + 1,
+    }
 }

@@ -56,13 +56,7 @@ fn run(s: &[u8], table: &mut [u32]) {
 }
 
 fn run_file(path: &[u8], buffer: &mut [u8], table: &mut [u32]) {
-    let file = os::open_read(path);
-    if file < 0 {
-        os::fail(path);
-        return;
-    }
-    let n = io::read_full(file, buffer);
-    libc::close(file);
+    let n = frames::load(path, buffer);
     run(&buffer[..n], table);
 }
 

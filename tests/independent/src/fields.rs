@@ -9,10 +9,11 @@ pub const FIELDS: std::ops::RangeInclusive<u32> = 1..=17;
 
 /// Where a field's text stands in the message, and how long it is; the empty
 /// part at 0 where there is none.
-pub fn field(message: &[u8], payment: usize, field: u32) -> (usize, usize) {
+pub fn field(message: &[u8], payment: usize, field: usize) -> (usize, usize) {
     let Ok(accepted) = read(message) else { return (0, 0) };
     let payments = accepted.order.payments();
-    let part = part(payments.get(payment).and_then(|payment| element(payment, field)));
+    let known = payments.get(payment).zip(u32::try_from(field).ok());
+    let part = part(known.and_then(|(payment, field)| element(payment, field)));
     (part.start, part.len)
 }
 

@@ -18,6 +18,7 @@ pub use form::{form, Tree};
 pub use regroup::{differing, regroup, Regroup};
 
 use order::Order;
+use std::fmt;
 
 pub const LONGEST_MESSAGE: usize = 32_768;
 
@@ -39,6 +40,26 @@ impl Refusal {
 pub enum Verdict {
     Accepted { blocks: u32, payments: u32, cents: u64 },
     Refused { number: u32, element: u32, offset: usize },
+}
+
+impl fmt::Display for Refusal {
+    fn fmt(&self, out: &mut fmt::Formatter) -> fmt::Result {
+        let Refusal { number, element, offset } = self;
+        write!(out, "REFUSED {number} element={element} offset={offset}")
+    }
+}
+
+impl fmt::Display for Verdict {
+    fn fmt(&self, out: &mut fmt::Formatter) -> fmt::Result {
+        match *self {
+            Verdict::Accepted { blocks, payments, cents } => {
+                write!(out, "ACCEPTED blocks={blocks} payments={payments} cents={cents}")
+            }
+            Verdict::Refused { number, element, offset } => {
+                Refusal { number, element, offset }.fmt(out)
+            }
+        }
+    }
 }
 
 /// The verdict on a message; the lent table is filled only on acceptance.

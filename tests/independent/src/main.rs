@@ -1,7 +1,7 @@
 //! The command line: verdict, form, regroup, and the generator's cases.
 
 use independent::generate;
-use independent::{form, regroup, verdict, Refusal, Regroup, Verdict};
+use independent::{form, regroup, verdict, Regroup, Verdict};
 use std::collections::{BTreeMap, BTreeSet};
 use std::ffi::OsString;
 use std::fs;
@@ -37,7 +37,7 @@ fn run(arguments: &[OsString], out: &mut impl Write) -> io::Result<bool> {
         (Some("form"), files) => each_file(files, form_lines, out)?,
         (Some("regroup"), [first, second, list]) => {
             let answer = regroup(&contents(first), &contents(second), &contents(list));
-            writeln!(out, "{}", regroup_line(&answer))?;
+            writeln!(out, "{answer}")?;
         }
         (Some(command @ ("cases" | "pairs" | "count")), [seed, many]) => {
             let (Some(seed), Some(many)) = (number(seed), number(many)) else { return Ok(false) };
@@ -86,17 +86,14 @@ fn form_lines(message: &[u8]) -> Vec<String> {
 
 fn verdict_lines(message: &[u8]) -> Vec<String> {
     let mut table = [0; 1024];
-    match verdict(message, &mut table) {
-        Verdict::Accepted { blocks, payments, cents } => {
-            let accepted = format!("ACCEPTED blocks={blocks} payments={payments} cents={cents}");
-            let rows = table.chunks_exact(16).take(payments as usize).enumerate();
-            let payments = rows.map(|(ordinal, row)| payment_line(message, ordinal, row));
-            std::iter::once(accepted).chain(payments).collect()
-        }
-        Verdict::Refused { number, element, offset } => {
-            vec![refusal_line(&Refusal { number, element, offset })]
-        }
-    }
+    let answer = verdict(message, &mut table);
+    let payments = match answer {
+        Verdict::Accepted { payments, .. } => payments as usize,
+        Verdict::Refused { .. } => 0,
+    };
+    let rows = table.chunks_exact(16).take(payments).enumerate();
+    let payments = rows.map(|(ordinal, row)| payment_line(message, ordinal, row));
+    std::iter::once(answer.to_string()).chain(payments).collect()
 }
 
 fn payment_line(message: &[u8], ordinal: usize, row: &[u32]) -> String {
@@ -107,19 +104,6 @@ fn payment_line(message: &[u8], ordinal: usize, row: &[u32]) -> String {
     };
     let cents = u64::from(row[13]) * 100 + u64::from(row[14]);
     format!("{ordinal} {} {} {} {cents} {}", row[0], text(11), text(3), text(1))
-}
-
-fn refusal_line(Refusal { number, element, offset }: &Refusal) -> String {
-    format!("REFUSED {number} element={element} offset={offset}")
-}
-
-fn regroup_line(answer: &Regroup) -> String {
-    match answer {
-        Regroup::Accepted => "ACCEPTED".to_string(),
-        Regroup::Message { whose: 1, refusal } => format!("FIRST {}", refusal_line(refusal)),
-        Regroup::Message { refusal, .. } => format!("SECOND {}", refusal_line(refusal)),
-        Regroup::Refused { number, k, field } => format!("REFUSED {number} k={k} field={field}"),
-    }
 }
 
 fn generated(command: &str, seed: u64, many: u64, out: &mut impl Write) -> io::Result<()> {

@@ -2,6 +2,7 @@
 
 use crate::fields::lowest_difference;
 use crate::{read, Accepted, Refusal};
+use std::fmt;
 
 #[derive(Clone, Copy, Debug, PartialEq, Eq)]
 pub enum Regroup {
@@ -18,6 +19,19 @@ pub enum Regroup {
     },
 }
 
+impl fmt::Display for Regroup {
+    fn fmt(&self, out: &mut fmt::Formatter) -> fmt::Result {
+        match self {
+            Regroup::Accepted => write!(out, "ACCEPTED"),
+            Regroup::Message { whose: 1, refusal } => write!(out, "FIRST {refusal}"),
+            Regroup::Message { refusal, .. } => write!(out, "SECOND {refusal}"),
+            Regroup::Refused { number, k, field } => {
+                write!(out, "REFUSED {number} k={k} field={field}")
+            }
+        }
+    }
+}
+
 /// Whether the second message regroups the first by that list.
 pub fn regroup(first: &[u8], second: &[u8], list: &[u8]) -> Regroup {
     match read_both(first, second).and_then(|(first, second)| judge(&first, &second, list)) {
@@ -32,7 +46,7 @@ pub fn differing(first: &[u8], second: &[u8], list: &[u8]) -> (usize, usize) {
     let Regroup::Refused { number: 20, k, field } = regroup(first, second, list) else {
         return (0, 0);
     };
-    crate::field(second, k as usize, field)
+    crate::field(second, k as usize, field as usize)
 }
 
 fn read_both<'f, 's>(

@@ -10,7 +10,7 @@ use std::collections::{BTreeMap, BTreeSet};
 
 const SEED: u64 = 2026;
 
-fn text(message: &[u8], payment: usize, number: u32) -> &str {
+fn text(message: &[u8], payment: usize, number: usize) -> &str {
     let (start, length) = field(message, payment, number);
     std::str::from_utf8(&message[start..start + length]).unwrap()
 }
@@ -167,7 +167,7 @@ fn every_regrouping_refusal_is_reached_and_as_expected() {
                 numbers.insert(number);
                 fields.insert(differs);
                 if number == 20 {
-                    assert_eq!(part, field(&pair.second, k as usize, differs));
+                    assert_eq!(part, field(&pair.second, k as usize, differs as usize));
                     continue;
                 }
             }

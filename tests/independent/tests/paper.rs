@@ -175,10 +175,13 @@ fn fields_of_m1() {
         "",
     ];
     for (index, expected) in expected.iter().enumerate() {
-        assert_eq!(text(0, index as u32 + 1), *expected, "field {}", index + 1);
+        assert_eq!(text(0, index + 1), *expected, "field {}", index + 1);
     }
-    for (payment, number) in [(0, 0), (0, 18), (2, 10), (usize::MAX, 10), (0, u32::MAX)] {
-        assert_eq!(field(M1.as_bytes(), payment, number), (0, 0));
+    for number in [0, 18, (1 << 32) + 10, usize::MAX] {
+        assert_eq!(field(M1.as_bytes(), 0, number), (0, 0));
+    }
+    for payment in [2, 1 << 32, usize::MAX] {
+        assert_eq!(field(M1.as_bytes(), payment, 10), (0, 0));
     }
     assert_eq!(field(m1(">M1<", ">M_<").as_bytes(), 0, 10), (0, 0));
     assert_eq!(field(M1.as_bytes(), 0, 1), (0, 0));

@@ -1,4 +1,4 @@
--- `published::digits_end` is safe, ends, and stays within the file.
+-- `frames::digits_end` is safe, ends, and stays within the file.
 use borrow.Author.Needs.{needs}
 use Prim.Native.Nat.{_-_}
 use lib.ListN.{length}

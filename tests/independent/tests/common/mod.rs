@@ -1,7 +1,11 @@
 //! Message M1 of document 01 and what the tests share.
 #![allow(dead_code)]
 
+pub mod asked;
+pub mod edits;
 pub mod examples;
+pub mod pairs;
+pub mod written;
 
 use independent::{verdict, Verdict};
 
@@ -41,10 +45,15 @@ pub fn payments_of_m1() -> [&'static str; 2] {
     [first, element(&M1[after..], "CdtTrfTxInf")]
 }
 
+/// The text with two pieces of it exchanged.
+pub fn exchanged(text: &str, one: &str, other: &str) -> String {
+    text.replace(one, "ONE").replace(other, one).replace("ONE", other)
+}
+
 /// M1 with its payments exchanged.
 pub fn m2() -> String {
     let [first, second] = payments_of_m1();
-    M1.replace(first, "FIRST").replace(second, first).replace("FIRST", second)
+    exchanged(M1, first, second)
 }
 
 /// M1 with the second payment in a block B2 without ultimate debtor.

@@ -1,0 +1,19 @@
+//! Writes the data of the crate `fields_run` and what its program must print.
+//!
+//!     cargo run --release --offline --example fields FOLDER
+//!
+//! FOLDER/data/cases gets the cases, FOLDER/stdout the lines of the answers.
+
+#[path = "../tests/common/mod.rs"]
+mod common;
+
+use std::path::Path;
+
+fn main() -> std::io::Result<()> {
+    let folder = std::env::args_os().nth(1).expect("the folder");
+    let folder = Path::new(&folder);
+    let (cases, lines) = common::written::fields_run();
+    std::fs::create_dir_all(folder.join("data"))?;
+    std::fs::write(folder.join("data/cases"), cases)?;
+    std::fs::write(folder.join("stdout"), lines)
+}

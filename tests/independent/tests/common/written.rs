@@ -1,0 +1,52 @@
+//! A case as the files of the crates `published` and `fields_run` have it: a letter for
+//! its kind, its parts, and a line feed; each part is its length in decimal, a `:`, its
+//! bytes and a `,`.
+
+use super::asked::{self, Asked};
+use super::pairs::{self, Pair};
+
+/// What the buffer of the program `fields_run` holds.
+const MOST_BYTES: usize = 262_144;
+
+pub fn case(kind: &str, parts: &[&[u8]]) -> Vec<u8> {
+    let parts: Vec<u8> = parts.iter().flat_map(|bytes| part(bytes)).collect();
+    [kind.as_bytes(), &parts, b"\n"].concat()
+}
+
+fn part(bytes: &[u8]) -> Vec<u8> {
+    [format!("{}:", bytes.len()).as_bytes(), bytes, b","].concat()
+}
+
+/// The cases of the crate `fields_run`, and what its program must print. A case is `F` with
+/// name, payment, first and last field and message, which has a line for each field; or `D`
+/// with name, first, second and list, which has a line for each of the two ways.
+pub fn fields_run() -> (Vec<u8>, String) {
+    let (asked, pairs) = (asked::all(), pairs::all());
+    let all = asked.iter().map(of_asked).chain(pairs.iter().map(of_pair));
+    let (cases, lines): (Vec<Vec<u8>>, Vec<String>) = all.unzip();
+    let cases = cases.concat();
+    assert!(cases.len() <= MOST_BYTES, "{} bytes of cases", cases.len());
+    (cases, lines.concat())
+}
+
+fn of_asked(asked: &Asked) -> (Vec<u8>, String) {
+    let Asked { name, message, payment, fields } = asked;
+    let numbers = [payment, fields.start(), fields.end()].map(usize::to_string);
+    let [of, first, last] = &numbers;
+    let parts = [name, of, first, last, message].map(|part| part.as_bytes());
+    let line =
+        |(number, text)| format!("{name}, payment {payment}, field {number}: {}\n", quoted(text));
+    (case("F", &parts), asked.texts().map(line).collect())
+}
+
+fn of_pair(pair: &Pair) -> (Vec<u8>, String) {
+    let Pair { name, first, second, list } = pair;
+    let parts = [name.as_bytes(), first.as_bytes(), second.as_bytes(), list];
+    let lines = ["", ", back"].iter().zip(pair.answers());
+    let line = |(way, (text, answer))| format!("{name}{way}: {} {answer}\n", quoted(text));
+    (case("D", &parts), lines.map(line).collect())
+}
+
+fn quoted(text: &str) -> String {
+    format!("{} \"{text}\"", text.len())
+}

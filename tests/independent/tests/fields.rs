@@ -1,0 +1,203 @@
+//! The cases of the crate `fields_run`: that they leave nothing out, and that its files hold them.
+
+mod common;
+use common::asked::{self, Asked};
+use common::pairs::{self, Pair};
+use common::*;
+use independent::{differing, field, regroup, verdict, Regroup, Verdict};
+use std::collections::BTreeSet;
+
+/// The fields that a payment need not have.
+const OPTIONAL: [usize; 9] = [1, 2, 3, 8, 9, 12, 15, 16, 17];
+
+/// A part of a message, with the elements that it stands in.
+struct Found<'m> {
+    text: &'m str,
+    before: &'m str,
+}
+
+impl<'m> Found<'m> {
+    fn new(message: &'m str, (start, length): (usize, usize)) -> Self {
+        Found { text: &message[start..start + length], before: &message[..start] }
+    }
+
+    /// The name of the element whose text it is.
+    fn name(&self) -> &'m str {
+        let tag = self.before.rsplit('<').next().unwrap();
+        tag.trim_end_matches('>')
+    }
+
+    fn has_issuer(&self) -> bool {
+        self.before.rsplit("<RmtInf>").next().unwrap().contains("<Issr>")
+    }
+}
+
+/// A field of a payment that an accepted message has.
+struct Of<'m> {
+    number: usize,
+    found: Found<'m>,
+    block: u32,
+    inherited: bool,
+}
+
+fn fields_of(asked: &Asked) -> Vec<Of<'_>> {
+    let Asked { message, payment, fields, .. } = asked;
+    let mut table = [0; 1024];
+    let Verdict::Accepted { payments, .. } = verdict(message.as_bytes(), &mut table) else {
+        return Vec::new();
+    };
+    if *payment >= payments as usize {
+        return Vec::new();
+    }
+    let (block, offset) = (table[16 * payment], table[16 * payment + 15] as usize);
+    let known = fields.clone().filter(|number| (1..=17).contains(number));
+    known
+        .map(|number| {
+            let part = field(message.as_bytes(), *payment, number);
+            let found = Found::new(message, part);
+            Of { number, found, block, inherited: part.0 < offset }
+        })
+        .collect()
+}
+
+/// The numbers of the fields that are as is said here.
+fn numbers(all: &[Asked], said: impl Fn(&Of) -> bool) -> Vec<usize> {
+    let fields = all.iter().flat_map(fields_of).filter(|of| said(of));
+    fields.map(|of| of.number).collect::<BTreeSet<usize>>().into_iter().collect()
+}
+
+fn every_field() -> Vec<usize> {
+    (1..=17).collect()
+}
+
+#[test]
+fn every_field_is_asked_for_where_it_is_and_where_it_is_not() {
+    let all = asked::all();
+    let there = |of: &Of| !of.found.text.is_empty();
+    assert_eq!(numbers(&all, there), every_field());
+    assert_eq!(numbers(&all, |of| !there(of)), OPTIONAL);
+    assert_eq!(numbers(&all, |of| there(of) && of.block > 0), every_field());
+    assert_eq!(numbers(&all, |of| !there(of) && of.block > 0), OPTIONAL);
+    assert_eq!(numbers(&all, |of| there(of) && of.inherited), [1, 2, 3, 4, 5, 6, 7, 8]);
+    let own = [2, 3, 8, 9, 10, 11, 12, 13, 14, 15, 16, 17];
+    assert_eq!(numbers(&all, |of| there(of) && !of.inherited), own);
+}
+
+#[test]
+fn agents_remittances_and_amounts_are_written_in_every_way() {
+    let all = asked::all();
+    let fields: Vec<Of> = all.iter().flat_map(fields_of).collect();
+    let of = |number| fields.iter().filter(move |of| of.number == number).map(|of| &of.found);
+    let named = |number, name| of(number).any(|found| found.name() == name);
+    assert!(named(7, "BICFI") && named(7, "Id") && named(17, "Ustrd"));
+    for issuer in [true, false] {
+        assert!(of(17).any(|found| found.name() == "Ref" && found.has_issuer() == issuer));
+    }
+    for amount in ["12.5", "22.60", "13", "0012.50", "999999999.99", "000000000000012.50"] {
+        assert!(of(11).any(|found| found.text == amount), "{amount}");
+    }
+}
+
+#[test]
+fn unknown_payments_and_fields_are_asked_for() {
+    let all = asked::all();
+    let asks = |payment: usize, number: usize| {
+        all.iter().any(|asked| asked.payment == payment && asked.fields.contains(&number))
+    };
+    for number in [0, 18, (1 << 32) + 10, usize::MAX] {
+        assert!(asks(0, number), "{number}");
+    }
+    for payment in [1, 63, 1 << 32, usize::MAX] {
+        assert!(asks(payment, 10), "{payment}");
+    }
+    let refusals = all.iter().filter_map(|asked| match judge(&asked.message) {
+        Verdict::Refused { number, .. } => Some(number),
+        Verdict::Accepted { .. } => None,
+    });
+    let refusals: BTreeSet<u32> = refusals.collect();
+    assert_eq!(refusals, BTreeSet::from([2, 3, 4, 6, 7, 8, 9, 10, 12, 13]));
+    assert!(all.iter().any(|asked| asked.message.is_empty()));
+}
+
+/// The answers of a pair, with what is handed back.
+fn answers(pair: &Pair) -> [(Regroup, Found<'_>); 2] {
+    pair.ways().map(|(first, second)| {
+        let (one, two) = (first.as_bytes(), second.as_bytes());
+        let found = Found::new(second, differing(one, two, &pair.list));
+        (regroup(one, two, &pair.list), found)
+    })
+}
+
+/// The fields that differ in both ways, with the two parts.
+fn differences(pairs: &[Pair]) -> Vec<(usize, [Found<'_>; 2])> {
+    let differing = |pair| match answers(pair) {
+        [(Regroup::Refused { number: 20, field, .. }, one), (Regroup::Refused { field: same, .. }, other)]
+            if field == same =>
+        {
+            Some((field as usize, [one, other]))
+        }
+        _ => None,
+    };
+    pairs.iter().filter_map(differing).collect()
+}
+
+#[test]
+fn every_field_differs_where_both_have_it_and_where_one_has_it() {
+    let pairs = pairs::all();
+    let differences = differences(&pairs);
+    let fields = |absent: usize| -> Vec<usize> {
+        let with = differences.iter().filter(|(_, parts)| {
+            parts.iter().filter(|found| found.text.is_empty()).count() == absent
+        });
+        with.map(|(field, _)| *field).collect::<BTreeSet<usize>>().into_iter().collect()
+    };
+    assert_eq!(fields(0), every_field());
+    assert_eq!(fields(1), OPTIONAL);
+    assert!(fields(2).is_empty());
+}
+
+#[test]
+fn remittances_differ_in_kind_in_issuer_and_in_text() {
+    let pairs = pairs::all();
+    let differences = differences(&pairs);
+    let remittances = differences.iter().filter(|(field, _)| *field == 17);
+    let seen: BTreeSet<([&str; 2], [bool; 2], bool)> = remittances
+        .map(|(_, parts)| {
+            let [one, other] = parts;
+            let issuers = [one.has_issuer(), other.has_issuer()];
+            ([one.name(), other.name()], issuers, one.text == other.text)
+        })
+        .collect();
+    for wanted in [
+        (["Ref", "Ustrd"], [false, false], true),
+        (["Ref", "Ref"], [true, true], true),
+        (["Ref", "Ref"], [false, true], true),
+        (["Ref", "Ref"], [false, false], false),
+        (["Ustrd", "Ustrd"], [false, false], false),
+    ] {
+        assert!(seen.contains(&wanted), "{wanted:?}");
+    }
+}
+
+#[test]
+fn every_answer_is_reached() {
+    let pairs = pairs::all();
+    let reached = pairs.iter().flat_map(answers).map(|(answer, _)| match answer {
+        Regroup::Accepted => (0, 0),
+        Regroup::Message { whose, .. } => (whose, 0),
+        Regroup::Refused { number, k, .. } => (number, k),
+    });
+    let reached: BTreeSet<(u32, u32)> = reached.collect();
+    let wanted = [0, 1, 2, 15, 16, 17, 18, 20].map(|number| (number, 0));
+    let at_1 = [18, 19, 20].map(|number| (number, 1));
+    assert_eq!(reached, wanted.into_iter().chain(at_1).collect());
+}
+
+#[test]
+fn the_files_of_the_crate_hold_the_cases_and_the_lines() {
+    let folder = concat!(env!("CARGO_MANIFEST_DIR"), "/../../crates/fields_run");
+    let (cases, lines) = written::fields_run();
+    let file = |name| std::fs::read(format!("{folder}/{name}")).unwrap();
+    assert!(file("data/cases") == cases, "examples/fields.rs writes other cases");
+    assert!(file("stdout") == lines.as_bytes(), "examples/fields.rs writes other lines");
+}
