@@ -11,10 +11,10 @@ use Rattle.paper.specs.Values.{cents}
 use Rattle.paper.specs.Payments.{text-of}
 use Rattle.paper.specs.Fields.{a-text, text-value, text-value-or, cents-value, issuer-text, remittance-value, same-issuer, same-value}
 use Rattle.paper.proofs.Laws.{false-not-true, some-not-none, same-tests}
-use Rattle.routes.specs.Finds.{Finds, Leads, names-of}
+use Rattle.routes.specs.Finds.{Finds, found-at, found-nothing, Leads, names-of}
 use Rattle.routes.specs.declared.Found.{Found}
 use Rattle.fields.proofs.Fields.{in-payment-is}
-use Rattle.alike.specs.Alike.{InPayment}
+use Rattle.alike.specs.Alike.{is-absent, InPayment}
 
 -- two values of one text each
 pub one-text : {r : Bool} {a b v w : List ℕ} → r ≡ same a b → a ≡ v → b ≡ w → r ≡ same-value (a-text v) (a-text w)
@@ -23,14 +23,6 @@ one-text e p q = e ∙ rw (p, q)
 
 -- two elements that may be absent, by their texts and in cents
 module _ {o u : Option Element} where
-  pub neither : o ≡ none → u ≡ none → true ≡ same-value (text-value o) (text-value u)
-  unfolding text-value same-value
-  neither p q = sym (rw (p, q))
-
-  pub second-alone : {v : Element} → o ≡ none → u ≡ some v → false ≡ same-value (text-value o) (text-value u)
-  unfolding text-value same-value
-  second-alone p q = sym (rw (p, q))
-
   pub first-alone : {t : Element} → o ≡ some t → u ≡ none → false ≡ same-value (text-value o) (text-value u)
   unfolding text-value same-value
   first-alone p q = sym (rw (p, q))
@@ -40,14 +32,6 @@ module _ {o u : Option Element} where
   unfolding text-value
   both-there p q e = rw (p, q) e
 
-  pub no-amounts : o ≡ none → u ≡ none → true ≡ same-value (cents-value o) (cents-value u)
-  unfolding cents-value same-value
-  no-amounts p q = sym (rw (p, q))
-
-  pub second-amount : {v : Element} → o ≡ none → u ≡ some v → false ≡ same-value (cents-value o) (cents-value u)
-  unfolding cents-value same-value
-  second-amount p q = sym (rw (p, q))
-
   pub first-amount : {t : Element} → o ≡ some t → u ≡ none → false ≡ same-value (cents-value o) (cents-value u)
   unfolding cents-value same-value
   first-amount p q = sym (rw (p, q))
@@ -56,6 +40,17 @@ module _ {o u : Option Element} where
       → eqb m n ≡ same-value (cents-value o) (cents-value u)
   unfolding cents-value same-value
   both-amounts p q e f = rw (p, q, e, f)
+
+-- the first is absent: so is the second, or it is there alone
+pub first-absent : {s tree : List ℕ} {o u : Option Element} {f : Found} → o ≡ none → Finds s tree u f → is-absent f ≡ same-value (text-value o) (text-value u)
+unfolding text-value same-value is-absent
+first-absent e (found-at l) = sym (rw e)
+first-absent e found-nothing = sym (rw e)
+
+pub first-amount-absent : {s tree : List ℕ} {o u : Option Element} {f : Found} → o ≡ none → Finds s tree u f → is-absent f ≡ same-value (cents-value o) (cents-value u)
+unfolding cents-value same-value is-absent
+first-amount-absent e (found-at l) = sym (rw e)
+first-amount-absent e found-nothing = sym (rw e)
 
 -- texts whose absence means this text
 module _ (w : List ℕ) (o u : Option Element) where

@@ -1,12 +1,19 @@
 -- What is said where one element of two payments is compared.
 use Prim.Native.Nat.{ℕ}
 use mathlib.Core.List.{List, [], _∷_}
+use mathlib.Core.Bool.{Bool, true, false}
 use mathlib.Core.Option.{Option}
 use Rattle.paper.specs.Form.{Element}
 use Rattle.paper.specs.Payments.{Payment, in-payment}
 use Rattle.tree.specs.Laid.{Laid}
 use Rattle.routes.specs.Finds.{Finds}
 use Rattle.routes.specs.declared.Found.{Found}
+use Rattle.routes.specs.declared.Found.the-variants.{At, Nothing}
+
+-- nothing was found
+unfoldable pub is-absent : Found → Bool
+is-absent (At i) = false
+is-absent Nothing = true
 
 -- Of the payment whose own element stands there, this is where the route in it leads.
 abbrev pub InPayment : (s tree : List ℕ) (own : ℕ) (route : List ℕ) → Found → Type 0

@@ -10,7 +10,7 @@ ghost use Rattle.paper.specs.Fields.{a-text, text-value, text-value-or, cents-v
 ghost use Rattle.tree.specs.Laid.{Laid};
 ghost use Rattle.routes.specs.Finds.{Finds};
 ghost use Rattle.leaves.specs.Readable.{ReadMoney};
-ghost use Rattle.alike.specs.Alike.{InPayment, free-of, issuer-of, reference-of};
+ghost use Rattle.alike.specs.Alike.{is-absent, InPayment, free-of, issuer-of, reference-of};
 
 // An element that may be absent has the text that its absence means.
 fn means(s: &[u8], tree: &[u16], found: Found, otherwise: &[u8]) -> bool
@@ -43,6 +43,16 @@ pub fn same_or(
     texts::same(leaves::text(s1, tree1, i), leaves::text(s2, tree2, j))
 }
 
+// Nothing stands there.
+fn absent(found: Found) -> bool
+    ensures { λ r. ⌜ r ≡ is-absent found ⌝ }
+{
+    match found {
+        Found::At(_) => false,
+        Found::Nothing => true,
+    }
+}
+
 // Both are absent, or both are there with the same text.
 pub fn same_given(
     s1: &[u8],
@@ -55,10 +65,7 @@ pub fn same_given(
     ensures { λ r. ⌜ ((o u : Option Element) → Finds (now (s1 .entry)) (now (tree1 .entry)) o found1 → Finds (now (s2 .entry)) (now (tree2 .entry)) u found2 → r ≡ same-value (text-value o) (text-value u)) ⌝ }
 {
     let Found::At(i) = found1 else {
-        match found2 {
-            Found::At(_) => return false,
-            Found::Nothing => return true,
-        }
+        return absent(found2);
     };
     let Found::At(j) = found2 else {
         return false;
@@ -79,10 +86,7 @@ pub fn same_cents(
         → ReadMoney o → ReadMoney u → r ≡ same-value (cents-value o) (cents-value u)) ⌝ }
 {
     let Found::At(i) = found1 else {
-        match found2 {
-            Found::At(_) => return false,
-            Found::Nothing => return true,
-        }
+        return absent(found2);
     };
     let Found::At(j) = found2 else {
         return false;

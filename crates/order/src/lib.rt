@@ -44,19 +44,19 @@ fn put_payment(out: &mut [u16], k: usize, own: usize, block: usize, number: usiz
 }
 
 // The block after a block, the first payment of a block, and the payment after a payment; where there is none, the end of what holds them.
-pub fn next_block(s: &[u8], tree: &[u16], block: usize, stop: usize) -> usize
+fn next_block(s: &[u8], tree: &[u16], block: usize, stop: usize) -> usize
     ensures { λ r. ⌜ (block < stop → block < r) × ((t : Element) (ts : Elements) (next : ℕ) → Laid (now (s .entry)) (now (tree .entry)) t block next → LaidAll (now (s .entry)) (now (tree .entry)) ts next stop → Next (now (s .entry)) (now (tree .entry)) (bytes "PmtInf") (with-name (bytes "PmtInf") (listed ts)) r stop) ⌝ }
 {
     routes::next_in(s, tree, block, stop, b"PmtInf")
 }
 
-pub fn first_payment(s: &[u8], tree: &[u16], block: usize) -> usize
+fn first_payment(s: &[u8], tree: &[u16], block: usize) -> usize
     ensures { λ r. ⌜ ((t : Element) (next : ℕ) → Laid (now (s .entry)) (now (tree .entry)) t block next → Next (now (s .entry)) (now (tree .entry)) (bytes "CdtTrfTxInf") (with-name (bytes "CdtTrfTxInf") (children t)) r next) ⌝ }
 {
     routes::first_in(s, tree, block, b"CdtTrfTxInf")
 }
 
-pub fn next_payment(s: &[u8], tree: &[u16], own: usize, stop: usize) -> usize
+fn next_payment(s: &[u8], tree: &[u16], own: usize, stop: usize) -> usize
     ensures { λ r. ⌜ (own < stop → own < r) × ((t : Element) (ts : Elements) (next : ℕ) → Laid (now (s .entry)) (now (tree .entry)) t own next → LaidAll (now (s .entry)) (now (tree .entry)) ts next stop → Next (now (s .entry)) (now (tree .entry)) (bytes "CdtTrfTxInf") (with-name (bytes "CdtTrfTxInf") (listed ts)) r stop) ⌝ }
 {
     routes::next_in(s, tree, own, stop, b"CdtTrfTxInf")

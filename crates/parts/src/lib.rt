@@ -8,7 +8,7 @@ ghost use Rattle.parts.specs.Parts.{HandsBack};
 ghost use Rattle.paper.specs.Fields.{field-of};
 
 // So many bytes of the message from a place on; the empty part at 0 where it has not so many.
-pub fn part(message: &[u8], start: usize, size: usize) -> &[u8]
+fn part(message: &[u8], start: usize, size: usize) -> &[u8]
     ensures { λ r. ⌜ (start + size ≤ length (now (message .entry)) → HandsBack (message .entry) r (record { start = start; size = size })) ⌝ }
 {
     if message.len() < start {

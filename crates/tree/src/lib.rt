@@ -36,7 +36,7 @@ pub fn cell(tree: &[u16], i: usize, k: usize) -> usize
 }
 
 // The text is what stands in the message from one offset to another.
-pub fn is_text(s: &[u8], from: usize, to: usize, text: &[u8]) -> bool
+fn is_text(s: &[u8], from: usize, to: usize, text: &[u8]) -> bool
     ensures { λ r. ⌜ (from ≤ to → to ≤ length (now (s .entry)) → r ≡ same (between from to (now (s .entry))) (now (text .entry))) ⌝ }
 {
     if to < from {

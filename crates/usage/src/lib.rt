@@ -49,7 +49,7 @@ fn in_neither(s: &[u8], tree: &[u16], own: usize, block: usize) -> Finding
 }
 
 // 9 and 10 of one payment: 16, 36, 34.
-pub fn in_payment(s: &[u8], tree: &[u16], own: usize, block: usize) -> Finding
+fn in_payment(s: &[u8], tree: &[u16], own: usize, block: usize) -> Finding
     ensures { λ r. ⌜ ((p : Payment) (m n : ℕ) → Laid (now (s .entry)) (now (tree .entry)) (p .own) own m → Laid (now (s .entry)) (now (tree .entry)) (p .block) block n → refusal-found r ≡ usage-of p) ⌝ }
 {
     let types = in_both(s, tree, own, block, 16, b"PmtTpInf");
