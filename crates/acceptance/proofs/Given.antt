@@ -9,7 +9,7 @@ use lib.ListN.{length}
 use Rattle.paper.specs.Bytes.{if_then_else_, white, every}
 use Rattle.paper.specs.Form.{Head, Element, Elements, holding-text, holding-elements, []ᵉ, _∷ᵉ_}
 use Rattle.paper.specs.Rows.{Place, Holds, text, elements, Row, row-of, head-of}
-use Rattle.paper.specs.Payments.{Payment, text-of, child, all-of, blocks, payments, in-payment, in-block, total}
+use Rattle.paper.specs.Payments.{Payment, text-of, all-of, blocks, block-id, payments, in-payment, in-block, total}
 use Rattle.paper.specs.Refusals.{Refusal, refuse, _or-else_, Left, from-here, missing, ends, only-white, first-at, Sought, never, early, found, seek, no-judgement, walk, walk-all, rows-refusal, values-refusal, sixty-fifth, too-many, limits-refusal, in-both, in-neither, usage-of, usage, usage-refusal, among-texts, repeated, ids-refusal, total-refusal, unless, block-counts, counts-refusal}
 use Rattle.acceptance.proofs.OneWalk.{Kept, as-found, of-a-leaf, one-walk}
 
@@ -147,7 +147,7 @@ usage-gives root = payments-give (payments root)
 repeated-gives : (earlier : List (List ℕ)) (bs : List Element) → Gives (11 ∷ []) (repeated earlier bs)
 unfolding repeated
 repeated-gives earlier [] = gives-none
-repeated-gives earlier (b ∷ bs) = go (child 11 b) (λ w. repeated-gives (w ∷ earlier) bs)
+repeated-gives earlier (b ∷ bs) = go (block-id b) (λ w. repeated-gives (w ∷ earlier) bs)
   where
     go : (o : Option Element) → ((w : List ℕ) → Gives (11 ∷ []) (repeated (w ∷ earlier) bs))
         → Gives (11 ∷ [])

@@ -9,10 +9,10 @@ use mathlib.Core.Logic.{⊎-elim, _⊎_}
 use lib.ListN.{getD}
 use Rattle.paper.specs.Form.{Head, Element}
 use Rattle.paper.specs.Rows.{Row, row-of, Conforms}
-use Rattle.paper.specs.Payments.{Payment, all-of, child, follow, blocks, of-header, payments, payments-of, payments-from, in-payment, in-block, either-of, inherited}
+use Rattle.paper.specs.Payments.{Payment, all-of, child, follow, blocks, of-header, header-count, header-sum, block-id, block-count, block-sum, instructed-amount, payments, payments-of, payments-from, in-payment, in-block, either-of, inherited}
 use Rattle.paper.specs.Table.{pairs, must-be-there, PairsThere}
-use Rattle.paper.specs.Accepted.{All, all-none, all-more, Each, each-none, each-more, There, AnyText, RowsKept, Used, UsageKept, AcceptedTree}
-use Rattle.paper.proofs.Laws.{false-not-true, some-not-none, both-left, both-right, all-joined}
+use Rattle.paper.specs.Accepted.{All, all-none, all-more, Each, each-none, each-more, There, AnyText, RowsKept, Used, UsageKept, AcceptedTree, LeavesThere}
+use Rattle.paper.proofs.Laws.{false-not-true, some-not-none, both-left, both-right, all-joined, all-map}
 use Rattle.acceptance.proofs.Routes.{steps, must-steps, step-all, follow-conforms, follow-there, EndsAs}
 use Rattle.acceptance.proofs.Proper.{leads, Proper}
 
@@ -61,6 +61,30 @@ module _ (profile : List Row) (proper : Proper profile) (Right : (parent : ℕ) 
     pub payments-as : All PaymentAs (payments root)
     unfolding payments
     payments-as = payments-as-from 0 blocks-as
+
+-- A child is there where it ends a route of one row.
+child-of : (k : ℕ) (t : Element) → There (follow (k ∷ []) t) → There (child k t)
+unfolding follow
+child-of k t h = go (child k t) refl (h .is-it)
+  where
+    go : (o : Option Element) → child k t ≡ o → _≡_ {A = Option Element} (elim o [ none ↦ none | some u ↦ some u ]) (some (h .it)) → There (child k t)
+    go none e f = some-not-none (sym f)
+    go (some u) e f = record { it = u; is-it = e }
+
+pub leaves-there : (profile : List Row) → Proper profile → (root : Element) → RowsKept profile root → LeavesThere root
+unfolding RowsKept of-header
+leaves-there profile proper root kept =
+    record {
+      count-there = stands profile proper AnyText 0 1 (2 ∷ 3 ∷ 6 ∷ []) root (proper .header-count) kept;
+      sum-there = stands profile proper AnyText 0 1 (2 ∷ 3 ∷ 7 ∷ []) root (proper .header-sum) kept;
+      id-of-each = each-block (λ b c. child-of 11 b (stands profile proper AnyText 2 10 (11 ∷ []) b (proper .block-id) c));
+      count-of-each = each-block (λ b c. child-of 14 b (stands profile proper AnyText 2 10 (14 ∷ []) b (proper .block-count) c));
+      sum-of-each = each-block (λ b c. child-of 15 b (stands profile proper AnyText 2 10 (15 ∷ []) b (proper .block-sum) c));
+      amount-of-each = all-map (λ p c. stands profile proper AnyText 10 37 (41 ∷ 42 ∷ []) (p .own) (proper .amount) (c .own-as)) (payments-as profile proper AnyText root kept);
+    }
+  where
+    each-block : {P : Element → Type 0} → ((b : Element) → As profile proper AnyText 2 10 b → P b) → All P (blocks root)
+    each-block f = all-map f (blocks-as profile proper AnyText root kept)
 
 -- No pair of an accepted payment's row is absent but the ultimate debtor's, the fourth.
 either-there : {o q : Option Element} → There o ⊎ There q → There (either-of o q)

@@ -13,7 +13,7 @@ use Rattle.paper.specs.Bytes.{if_then_else_, value-character, every, same}
 use Rattle.paper.specs.Form.{Head, Element}
 use Rattle.paper.specs.Rows.{Row, row-of, longest-of, head-of}
 use Rattle.paper.specs.Values.{lies-from, allowed, number, cents}
-use Rattle.paper.specs.Payments.{Payment, text-of, child, follow, all-of, blocks, of-header, payments, payments-from, payments-of, in-payment, in-block, amount-of, sum-of, total}
+use Rattle.paper.specs.Payments.{Payment, text-of, all-of, blocks, header-count, header-sum, block-id, block-count, block-sum, instructed-amount, payments, payments-from, payments-of, in-payment, in-block, amount-of, sum-of, total}
 use Rattle.paper.specs.Refusals.{Refusal, refuse, _or-else_, leaf-refusal, no-judgement, among-texts, unless, at-of, sixty-fifth, too-many, in-both, in-neither, usage-of, usage, repeated, block-counts, rows-refusal, values-refusal, limits-refusal, usage-refusal, ids-refusal, total-refusal, counts-refusal}
 use Rattle.paper.specs.Accepted.{All, all-none, all-more, Each, each-none, each-more, Distinct, distinct-none, distinct-more, AnyText, RightText, There, Says, RowsKept, LimitsKept, ValuesRight, NotBoth, Used, UsageKept, IdsApart, Sum, sum-none, sum-more, TotalFits, Truthful, CountsTrue}
 use Rattle.paper.proofs.Laws.{false-not-true, some-not-none, both, both-left, both-right, every-says, every-tests, same-says, same-tests, all-member, all-map, all-from}
@@ -217,7 +217,7 @@ usage-kept root = ((λ e. usage-used (payments root) e), (λ u. used-usage u))
 
 -- 11: the ids of some blocks, each with its own, and new
 abbrev HasId : Element → List ℕ → Type 0
-HasId b id = Says (λ w. w) (child 11 b) id
+HasId b id = Says (λ w. w) (block-id b) id
 
 record NewIds (earlier : List (List ℕ)) (bs : List Element) : Type 0 where
   its-ids : List (List ℕ)
@@ -227,9 +227,9 @@ record NewIds (earlier : List (List ℕ)) (bs : List Element) : Type 0 where
 ids-new : (earlier : List (List ℕ)) (bs : List Element) → repeated earlier bs ≡ none → NewIds earlier bs
 unfolding repeated
 ids-new earlier [] e = record { its-ids = []; has-its-own = each-none; new = record { distinct = distinct-none; not-earlier = all-none } }
-ids-new earlier (b ∷ bs) e = go (child 11 b) refl e (λ w f. ids-new (w ∷ earlier) bs f)
+ids-new earlier (b ∷ bs) e = go (block-id b) refl e (λ w f. ids-new (w ∷ earlier) bs f)
   where
-    fresh : (t : Element) → child 11 b ≡ some t → (c : Bool) → among-texts (text-of t) earlier ≡ c
+    fresh : (t : Element) → block-id b ≡ some t → (c : Bool) → among-texts (text-of t) earlier ≡ c
         → (if c then refuse 11 11 (head-of t .at) else repeated (text-of t ∷ earlier) bs) ≡ none
         → (repeated (text-of t ∷ earlier) bs ≡ none → NewIds (text-of t ∷ earlier) bs) → NewIds earlier (b ∷ bs)
     fresh t s true p q below = refuses _ _ _ q
@@ -241,7 +241,7 @@ ids-new earlier (b ∷ bs) e = go (child 11 b) refl e (λ w f. ids-new (w ∷ ea
           new = new-first (λ m. false-not-true (sym p ∙ among-texts-member m)) (n .new);
         }
 
-    go : (o : Option Element) → child 11 b ≡ o
+    go : (o : Option Element) → block-id b ≡ o
         → _≡_ {A = Option Refusal}
         (elim o [
           | none ↦ refuse 11 11 0
@@ -273,9 +273,9 @@ ids-apart root = (
 
 -- amounts that stand there add up to what is computed
 abbrev pub HasAmount : Element → Type 0
-HasAmount t = There (follow (41 ∷ 42 ∷ []) t)
+HasAmount t = There (instructed-amount t)
 
-amount-is : (t : Element) {u : Element} → follow (41 ∷ 42 ∷ []) t ≡ some u → amount-of t ≡ cents (text-of u)
+amount-is : (t : Element) {u : Element} → instructed-amount t ≡ some u → amount-of t ≡ cents (text-of u)
 unfolding amount-of
 amount-is t e = go e
   where
@@ -301,7 +301,7 @@ pub total-fits : (root : Element) → All HasAmount (own-elements root) → tota
 unfolding total-refusal total
 total-fits root amounts = ((λ e. go (ltb (total root) (2 ^ 64)) refl e), (λ t. rw (lt-ltb (sum-of (own-elements root)) (2 ^ 64) (subst (λ (n : ℕ). n < 2 ^ 64) (sum-is (t .is-total)) (t .fits)))))
   where
-    go : (c : Bool) → ltb (total root) (2 ^ 64) ≡ c → (if c then none else refuse 21 7 (at-of (of-header 7 root))) ≡ none → TotalFits root
+    go : (c : Bool) → ltb (total root) (2 ^ 64) ≡ c → (if c then none else refuse 21 7 (at-of (header-sum root))) ≡ none → TotalFits root
     go true p q = record { cents = sum-of (own-elements root); is-total = sums amounts; fits = ltb-true _ _ p }
     go false p q = refuses _ _ _ q
 
@@ -327,13 +327,13 @@ truthful stated-count stated-sum j k ts later amounts = (
 )
 
 abbrev BlockTruthful : Element → Type 0
-BlockTruthful b = Truthful (child 14 b) (child 15 b) (all-of 37 b)
+BlockTruthful b = Truthful (block-count b) (block-sum b) (all-of 37 b)
 
 counts-of-blocks : {bs : List Element} → All (λ b. All HasAmount (all-of 37 b)) bs → block-counts bs ≡ none ↔ All BlockTruthful bs
 unfolding block-counts
 counts-of-blocks all-none = ((λ e. all-none), (λ h. refl))
 counts-of-blocks (all-more {a = b} {rest = bs} amounts h) =
-    let t = truthful (child 14 b) (child 15 b) 14 15 (all-of 37 b) (block-counts bs) amounts in
+    let t = truthful (block-count b) (block-sum b) 14 15 (all-of 37 b) (block-counts bs) amounts in
     ((λ e. let r = t .0 e in all-more (r .0) (counts-of-blocks h .0 (r .1))), (λ a. t .1 (first-of a, counts-of-blocks h .1 (rest-of a))))
   where
     first-of : All BlockTruthful (b ∷ bs) → BlockTruthful b
@@ -345,7 +345,7 @@ counts-of-blocks (all-more {a = b} {rest = bs} amounts h) =
 pub counts-true : (root : Element) → All HasAmount (own-elements root) → All (λ b. All HasAmount (all-of 37 b)) (blocks root) → counts-refusal root ≡ none ↔ CountsTrue root
 unfolding counts-refusal total
 counts-true root amounts of-each =
-    let t = truthful (of-header 6 root) (of-header 7 root) 6 7 (own-elements root) (block-counts (blocks root)) amounts in
+    let t = truthful (header-count root) (header-sum root) 6 7 (own-elements root) (block-counts (blocks root)) amounts in
     let c = counts-of-blocks of-each in
     let same-count = length-map (payments root) (λ (p : Payment). p .own) in (
       (λ e. let r = t .0 (rw same-count e) in record { of-message = r .0; of-blocks = c .0 (r .1) }),

@@ -137,7 +137,7 @@ p-cases =
     moved m1 m2 (list 0 1) (answered 20 0 10) ∷
     moved m1 m3 (list 0 1) (answered 20 1 8) ∷ []
 
--- M1's 32 numbers, over a table of ones, and the same table as bytes; some parts of its fields; nothing is written after a refusal.
+-- M1's 32 numbers
 unfoldable pub m1-numbers : List ℕ
 m1-numbers =
     0 ∷ 662 ∷ 2 ∷ 779 ∷ 20 ∷ 741 ∷ 6 ∷ 604 ∷ 8 ∷ 341 ∷ 30 ∷ 479 ∷ 20 ∷ 12 ∷ 50 ∷ 630 ∷
@@ -156,6 +156,8 @@ m1-bytes =
 
 unfoldable pub more-cases : List Case
 more-cases =
+    message (m1-with "M1/" "3" "35.11") (refused-with 8 4 92) ∷
+    message (m1-with "M1" "3" "35.11") (refused-with 12 6 147) ∷
     table m1 (times 34 1) (m1-numbers ++ (1 ∷ 1 ∷ [])) ∷
     table (m1-with "M1" "3" "35.10") (times 34 1) (times 34 1) ∷
     bytes-of m1 (times 131 1) (m1-bytes ++ (1 ∷ 1 ∷ 1 ∷ [])) ∷

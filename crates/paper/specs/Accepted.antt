@@ -11,7 +11,7 @@ use Rattle.paper.specs.Bytes.{value-character, Every}
 use Rattle.paper.specs.Form.{Head, Element, IsMessage}
 use Rattle.paper.specs.Rows.{Row, row-of, longest-of, Conforms}
 use Rattle.paper.specs.Values.{allowed, number, cents}
-use Rattle.paper.specs.Payments.{Payment, text-of, child, follow, all-of, blocks, of-header, payments, in-payment, in-block}
+use Rattle.paper.specs.Payments.{Payment, text-of, all-of, blocks, header-count, header-sum, block-id, block-count, block-sum, instructed-amount, payments, in-payment, in-block}
 
 -- Each of a list; each of a list with its own of another; no two of a list alike.
 pub data All {A : Type 0} (P : A → Type 0) : List A → Type 0 where
@@ -73,13 +73,13 @@ UsageKept root = All Used (payments root)
 -- Block ids: each block has one, and no two are alike, byte for byte.
 pub record IdsApart (root : Element) : Type 0 where
   pub ids : List (List ℕ)
-  pub has-its-own : Each (λ b id. Says (λ w. w) (child 11 b) id) (blocks root) ids
+  pub has-its-own : Each (λ b id. Says (λ w. w) (block-id b) id) (blocks root) ids
   pub distinct : Distinct ids
 
 -- The exact sum in cents of the instructed amounts of some payments' elements: each has its amount, and these are added.
 pub data Sum : List Element → ℕ → Type 0 where
   sum-none : Sum [] 0
-  sum-more : {t : Element} {ts : List Element} {amount rest : ℕ} → Says cents (follow (41 ∷ 42 ∷ []) t) amount → Sum ts rest
+  sum-more : {t : Element} {ts : List Element} {amount rest : ℕ} → Says cents (instructed-amount t) amount → Sum ts rest
       → Sum (t ∷ ts) (amount + rest)
 
 -- The total of the amounts is not above 64 bits.
@@ -106,8 +106,8 @@ pub record Truthful (stated-count stated-sum : Option Element) (ts : List Elemen
 
 -- Those of the header are those of the whole message, those of each block those of its payments.
 pub record CountsTrue (root : Element) : Type 0 where
-  pub of-message : Truthful (of-header 6 root) (of-header 7 root) (map (λ p. p .own) (payments root))
-  pub of-blocks : All (λ b. Truthful (child 14 b) (child 15 b) (all-of 37 b)) (blocks root)
+  pub of-message : Truthful (header-count root) (header-sum root) (map (λ p. p .own) (payments root))
+  pub of-blocks : All (λ b. Truthful (block-count b) (block-sum b) (all-of 37 b)) (blocks root)
 
 pub record AcceptedTree (profile : List Row) (root : Element) : Type 0 where
   pub but-counts : RightButCounts profile root
@@ -119,3 +119,12 @@ pub record Accepted (profile : List Row) (s : List ℕ) : Type 0 where
   pub root : Element
   pub form : IsMessage s root
   pub tree : AcceptedTree profile root
+
+-- The leaves that these rules speak of are there. (Proved of every message that keeps the rows: crates/acceptance/proofs/Present.antt, `leaves-there`.)
+pub record LeavesThere (root : Element) : Type 0 where
+  pub count-there : There (header-count root)
+  pub sum-there : There (header-sum root)
+  pub id-of-each : All (λ b. There (block-id b)) (blocks root)
+  pub count-of-each : All (λ b. There (block-count b)) (blocks root)
+  pub sum-of-each : All (λ b. There (block-sum b)) (blocks root)
+  pub amount-of-each : All (λ p. There (instructed-amount (p .own))) (payments root)

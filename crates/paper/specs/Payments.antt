@@ -42,6 +42,26 @@ blocks root = elim (child 2 root) [ none ↦ [] | some order ↦ all-of 10 order
 unfoldable pub of-header : ℕ → Element → Option Element
 of-header k root = follow (2 ∷ 3 ∷ k ∷ []) root
 
+-- Leaves that later rules ask for: the header's count and sum, a block's id, count and sum, a payment's instructed amount. (In a message that keeps the rows
+-- none is absent: crates/acceptance/proofs/Present.antt, `leaves-there`.)
+abbrev pub header-count : Element → Option Element
+header-count root = of-header 6 root
+
+abbrev pub header-sum : Element → Option Element
+header-sum root = of-header 7 root
+
+abbrev pub block-id : Element → Option Element
+block-id b = child 11 b
+
+abbrev pub block-count : Element → Option Element
+block-count b = child 14 b
+
+abbrev pub block-sum : Element → Option Element
+block-sum b = child 15 b
+
+abbrev pub instructed-amount : Element → Option Element
+instructed-amount t = follow (41 ∷ 42 ∷ []) t
+
 -- A payment: its own element, its block and that block's number, from 0.
 pub record Payment : Type 0 where
   pub own : Element
@@ -75,7 +95,7 @@ inherited route p = either-of (in-payment route p) (in-block route p)
 
 -- The instructed amount of a payment's element, in cents, and those of several together. (In an accepted message each payment has one: `Accepted` says so.)
 unfoldable pub amount-of : Element → ℕ
-amount-of t = elim (follow (41 ∷ 42 ∷ []) t) [ none ↦ 0 | some u ↦ cents (text-of u) ]
+amount-of t = elim (instructed-amount t) [ none ↦ 0 | some u ↦ cents (text-of u) ]
 
 unfoldable pub sum-of : List Element → ℕ
 sum-of [] = 0

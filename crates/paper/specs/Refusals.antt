@@ -11,7 +11,7 @@ use Rattle.paper.specs.Form.{Head, Element, Elements, holding-text, hold
 use Rattle.paper.specs.Computed.Reading.{Reading, root-is, stops-at, read}
 use Rattle.paper.specs.Rows.{Place, one, opt, plus, either, Holds, text, elements, Row, name, row-of, longest-of, head-of}
 use Rattle.paper.specs.Values.{lies-from, allowed, number, cents}
-use Rattle.paper.specs.Payments.{Payment, text-of, child, all-of, blocks, of-header, payments, in-payment, in-block, sum-of, total}
+use Rattle.paper.specs.Payments.{Payment, text-of, all-of, blocks, header-count, header-sum, block-id, block-count, block-sum, payments, in-payment, in-block, sum-of, total}
 
 -- A refusal's number, element and offset. `none` is no refusal.
 pub record Refusal : Type 0 where
@@ -204,7 +204,7 @@ among-texts w (v ∷ vs) = same w v || among-texts w vs
 unfoldable pub repeated : (earlier : List (List ℕ)) → List Element → Option Refusal
 repeated earlier [] = none
 repeated earlier (b ∷ bs) =
-    elim (child 11 b) [
+    elim (block-id b) [
       | none ↦ refuse 11 11 0
       | some id ↦ if among-texts (text-of id) earlier then refuse 11 11 (head-of id .at) else repeated (text-of id ∷ earlier) bs
     ]
@@ -218,7 +218,7 @@ at-of none = 0
 at-of (some t) = head-of t .at
 
 unfoldable pub total-refusal : Element → Option Refusal
-total-refusal root = if ltb (total root) (2 ^ 64) then none else refuse 21 7 (at-of (of-header 7 root))
+total-refusal root = if ltb (total root) (2 ^ 64) then none else refuse 21 7 (at-of (header-sum root))
 
 -- 12 and 13: one walk: header count, header sum, then each block's count and sum. Header numbers cover the whole message.
 unfoldable pub unless : (List ℕ → Bool) → (number row : ℕ) → Option Element → Option Refusal
@@ -228,13 +228,13 @@ unless right number row (some t) = if right (text-of t) then none else refuse nu
 unfoldable pub block-counts : List Element → Option Refusal
 block-counts [] = none
 block-counts (b ∷ bs) =
-    unless (λ w. eqb (number w) (length (all-of 37 b))) 12 14 (child 14 b) or-else
-    unless (λ w. eqb (cents w) (sum-of (all-of 37 b))) 13 15 (child 15 b) or-else block-counts bs
+    unless (λ w. eqb (number w) (length (all-of 37 b))) 12 14 (block-count b) or-else
+    unless (λ w. eqb (cents w) (sum-of (all-of 37 b))) 13 15 (block-sum b) or-else block-counts bs
 
 unfoldable pub counts-refusal : Element → Option Refusal
 counts-refusal root =
-    unless (λ w. eqb (number w) (length (payments root))) 12 6 (of-header 6 root) or-else
-    unless (λ w. eqb (cents w) (total root)) 13 7 (of-header 7 root) or-else block-counts (blocks root)
+    unless (λ w. eqb (number w) (length (payments root))) 12 6 (header-count root) or-else
+    unless (λ w. eqb (cents w) (total root)) 13 7 (header-sum root) or-else block-counts (blocks root)
 
 -- the stages over the tree of a message of the form
 unfoldable pub tree-refusal : List Row → Element → Option Refusal
