@@ -19,7 +19,10 @@
 extern "C" {
 #endif
 
-/* Why a message is refused: the number of the refusal. `element` is a row of document 01, 0 where none is named; `offset` is a byte of the message. */
+/*
+ * Why a message is refused: the number of the refusal (docs/RULES.md, 6). `element` is a row of its section 3, 0 where none is named; `offset` is a byte of
+ * the message.
+ */
 enum {
     GLOWENZO_ACCEPTED = 0,
     GLOWENZO_TOO_LONG = 1,               /* over 32,768 bytes; offset 32768 */
@@ -40,7 +43,7 @@ enum {
     GLOWENZO_TOTAL_TOO_LARGE = 21        /* total above 64 bits; no message within the limits reaches it */
 };
 
-/* Why a regrouping is refused, beside a message's own refusal. */
+/* Why a regrouping is refused, beside a message's own refusal (docs/RULES.md, 9). The seventeen fields are its section 8. */
 enum {
     GLOWENZO_PAYMENTS_DIFFER = 15,       /* the numbers of payments differ */
     GLOWENZO_LIST_FORM = 16,             /* the list is not of its form */
@@ -71,7 +74,7 @@ typedef struct {
 } glowenzo_regroup_t;
 
 /*
- * The table: numbers of four bytes each, high byte first. One to three bytes left at its end make no number and stay as they are. It must have room for
+ * The table (docs/RULES.md, 7 and 10): numbers of four bytes each, high byte first. One to three bytes left at its end make no number and stay as they are. It must have room for
  * 1,024 numbers (4,096 bytes) or more. It is written only if the message is accepted: then payment k, from 0, has the numbers 16k to 16k + 15, and
  * every other byte stays as it is. A start and a length name a part of the message.
  */

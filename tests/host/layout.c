@@ -1,7 +1,7 @@
 /*
  * Holds the structs of include/glowenzo.h to their layout, and the library to them: each member has the value that only it can have in a known answer.
  *
- *     layout M1 M3 LIST          messages of document 01, and the list 0, 1
+ *     layout M1 M3 LIST          the messages of README.md, and the list 0, 1
  */
 #include <glowenzo.h>
 #include <stddef.h>

@@ -1,1 +1,1 @@
-// Theorems about document 01's definitions: the verdict accepts exactly what `Accepted` says (proofs/).
+// Theorems about the definitions: the verdict accepts exactly what `Accepted` says, and refuses by the first stage that does not hold (proofs/).

@@ -1,1 +1,1 @@
-// The cases that document 01 marks P, computed from the paper's definitions under one theorem (specs/Cases.antt, proofs/Proved.antt).
+// Cases that are computed from the definitions, under two theorems (specs/Cases.antt, proofs/Proved.antt).

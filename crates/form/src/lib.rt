@@ -1,4 +1,4 @@
-// The written form (refusal 2 of document 01): whether a message is of the form, and if not, the first byte that cannot be.
+// The written form (docs/RULES.md, 2; refusal 2): whether a message is of the form, and if not, the first byte that cannot be.
 // One pass over the message, in place. Elements within elements are read by recursion, which the depth bounds; siblings and
 // bytes are read by loops.
 use scans::Scan;

@@ -1,6 +1,6 @@
 // Runs `form::form_of` over each case of the file `cases` and over each beginning of it, and writes what was found.
 // A case is a name and a text, as parts, and a line feed.
-// What it must write, `stdout`, was worked out from document 01 and not by a run.
+// What it must write, `stdout`, was worked out from the rules (docs/RULES.md, 2) and not by a run.
 use form::Form;
 use libc::STDOUT_FILENO;
 ghost use Prim.Native.Nat.{_≤_};

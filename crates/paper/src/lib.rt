@@ -1,4 +1,4 @@
-// Document 01 as definitions (specs/). The enums of the answers stand here; specs/Answers.antt gives the paper's numbers for each of their cases.
+// The rules (docs/RULES.md) as definitions (specs/). The enums of the answers stand here; specs/Answers.antt gives the paper's numbers for each of their cases.
 
 // Why a message is refused.
 pub enum Fault {

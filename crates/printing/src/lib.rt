@@ -1,4 +1,4 @@
-// The lines that the programs write, as document 01 shows them.
+// The lines that the programs write, as docs/RULES.md (11) shows them.
 use answers::OfMessage;
 use answers::OfRegrouping;
 use libc::STDOUT_FILENO;

@@ -1,6 +1,6 @@
-//! An independent reading of document 01: the verdict on one pain.001.001.09
+//! An independent reading of the rules: the verdict on one pain.001.001.09
 //! message, the seventeen fields of its payments, and the regrouping of one
-//! message by another. Written from the paper alone.
+//! message by another. Written from the rules alone.
 
 pub mod counts;
 pub mod fields;

@@ -1,6 +1,6 @@
 //! The form once more, as a grammar that is tried in every possible way.
 //!
-//! `Ways` follows document 01's grammar nondeterministically: from a place in
+//! `Ways` follows the form's grammar nondeterministically: from a place in
 //! the bytes each piece of it gives all places where it may end. Whoever asks
 //! for a byte beyond the last one could go on, and everything in the grammar
 //! can be finished, so then the bytes begin a text of the form.
@@ -115,7 +115,7 @@ fn begins_the_form(bytes: &[u8]) -> bool {
     ways.message().contains(&bytes.len()) || ways.could_go_on.get()
 }
 
-/// Document 01's words: the first byte after which the bytes so far begin no
+/// In the rules' words: the first byte after which the bytes so far begin no
 /// text of the form, else the length; none for a text of the form. A beginning
 /// of possible bytes is possible, so the place is found by halving.
 fn refused_at(bytes: &[u8]) -> Option<usize> {

@@ -1,4 +1,4 @@
-//! The cases of document 01 itself ("All P", M1, the table, the regrouping).
+//! The cases that the rules came with: those to be proved, M1, its table, the regrouping.
 
 mod common;
 use common::*;

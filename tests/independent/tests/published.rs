@@ -1,4 +1,4 @@
-//! What the source documents print, with the verdicts that document 01 gives.
+//! What the source documents print, with the verdicts that the rules give.
 
 mod common;
 use common::*;

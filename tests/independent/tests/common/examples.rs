@@ -1,5 +1,5 @@
 //! The whole messages and the snippets that the source documents print, with the
-//! verdicts that document 01 gives. Shared by the test over them and by the program that
+//! verdicts that the rules give. Shared by the test over them and by the program that
 //! writes them for the crate `published`.
 
 use super::*;

@@ -1,4 +1,4 @@
-//! Message M1 of document 01 and what the tests share.
+//! Message M1 and what the tests share.
 #![allow(dead_code)]
 
 pub mod asked;
