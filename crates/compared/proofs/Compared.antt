@@ -12,7 +12,9 @@ use Rattle.paper.specs.Payments.{Payment}
 use Rattle.paper.specs.Fields.{Value, absent, text-value, text-value-or, cents-value, remittance-value, plain, or-means, amount-field, remittance, fields, same-value, field-element, values-of, differ-from}
 use Rattle.leaves.specs.Readable.{ReadMoney}
 use Rattle.alike.specs.Alike.{free-of, issuer-of, reference-of, amount-in}
-use Rattle.compared.specs.Compared.{value-at}
+use Rattle.compared.specs.Compared.{value-at, lowest}
+use Rattle.compared.specs.declared.Field.{Field}
+use Rattle.compared.specs.declared.Field.the-variants.{Same, Differs}
 
 -- each of the seventeen fields
 plain-value : (p : Payment) (k : ℕ) → k < 17 → (k ≡ 0 → ⊥) → (k ≡ 1 → ⊥) → (k ≡ 10 → ⊥) → (k ≡ 16 → ⊥)
@@ -112,3 +114,16 @@ module _ (p q : Payment) (field : ℕ) {r : Bool} (low : 1 ≤ field) (high : fi
 pub no-field-differs : (p q : Payment) {field : ℕ} → field ≡ 18 → none ≡ from-field field p q
 unfolding values-of fields differ-from
 no-field-differs p q e = rw e
+
+-- Two answers that meet `differing`'s contract agree.
+field-by : Option ℕ → Field
+field-by none = Same
+field-by (some field) = Differs field
+
+field-again : (f : Field) → field-by (lowest f) ≡ f
+unfolding field-by lowest
+field-again Same = refl
+field-again (Differs field) = refl
+
+pub one-field : (f g : Field) → lowest f ≡ lowest g → f ≡ g
+one-field f g e = sym (field-again f) ∙ ap field-by e ∙ field-again g

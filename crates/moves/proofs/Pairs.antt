@@ -15,12 +15,15 @@ use Rattle.paper.specs.Values.{among}
 use Rattle.paper.specs.Payments.{Payment, payments}
 use Rattle.paper.specs.Accepted.{All, all-none, all-more}
 use Rattle.paper.specs.Fields.{Value, values-of, differ-from}
-use Rattle.paper.specs.Regrouping.{answered, pairing, all-values}
+use Rattle.paper.specs.Bytes.{if_then_else_}
+use Rattle.paper.specs.Regrouping.{RegroupingAnswer, answered, pairing, all-values}
 use Rattle.order.specs.Ordered.{PaymentAt, PaymentsAt, no-payments, more-payments}
 use Rattle.leaves.specs.Readable.{ReadMoney}
 use Rattle.alike.specs.Alike.{amount-in}
 use Rattle.compared.specs.Compared.{lowest, Stands}
-use Rattle.moves.specs.Pairs.{InOrder}
+use Rattle.moves.specs.Pairs.{InOrder, pairs-say}
+use Rattle.moves.specs.declared.Paired.{Paired}
+use Rattle.moves.specs.declared.Paired.the-variants as paired
 use Rattle.compared.specs.declared.Field.{Field}
 use Rattle.compared.specs.declared.Field.the-variants.{Same, Differs}
 
@@ -184,3 +187,20 @@ module _ {s1 tree1 order1 s2 tree2 order2 : List ℕ} {n : ℕ} {root1 root2 : E
                 → pairing (all-values root1) i (getD ks k 0 ∷ far .named) (drop i ks) (drop i (all-values root2))
                 ≡ pairing (all-values root1) j (getD ks k 0 ∷ far .named) (drop j ks) (drop j (all-values root2))
             moved p = rw p
+
+-- Two answers that meet `pairing`'s contract agree.
+paired-by : RegroupingAnswer → Paired
+paired-by a =
+    if eqb (a .number) 0 then paired.Accepted else
+    if eqb (a .number) 18 then paired.OrdinalTooLarge (a .k) else
+    if eqb (a .number) 19 then paired.NamedBefore (a .k) else paired.FieldsDiffer (a .k) (a .field)
+
+paired-again : (p : Paired) → paired-by (pairs-say p) ≡ p
+unfolding paired-by pairs-say answered
+paired-again paired.Accepted = refl
+paired-again (paired.OrdinalTooLarge k) = refl
+paired-again (paired.NamedBefore k) = refl
+paired-again (paired.FieldsDiffer k field) = refl
+
+pub one-pairing : (p q : Paired) → pairs-say p ≡ pairs-say q → p ≡ q
+one-pairing p q e = sym (paired-again p) ∙ ap paired-by e ∙ paired-again q

@@ -3,15 +3,16 @@ use Prim.Native.Nat.{ℕ, _≤_, _<_}
 use native.Mathlib.Omega.{arith}
 use mathlib.Core.List.{List}
 use mathlib.Core.Option.{Option, none, some}
-use mathlib.Core.Path.{_≡_, sym, _∙_, ap, subst}
+use mathlib.Core.Path.{_≡_, refl, sym, _∙_, ap, subst}
 use borrow.Author.Tests.{le-ltb}
 use lib.ListN.{length}
 use Rattle.paper.specs.Form.{Element}
 use Rattle.paper.specs.Computed.Reading.{read, root-is}
 use Rattle.paper.specs.Rows.{rows}
 use Rattle.paper.specs.Payments.{blocks, payments, total}
-use Rattle.paper.specs.Refusals.{Refusal, refuse, _or-else_, size-refusal, refused-as, accepted-with, unless-refused, of-reading, outcome-alone, tree-refusal, rows-refusal, limits-refusal, values-refusal, usage-refusal, ids-refusal, total-refusal, counts-refusal}
-use Rattle.paper.specs.Answers.{refusal-of, numbered, refusal-found}
+use Rattle.paper.specs.Refusals.{Refusal, refuse, _or-else_, size-refusal, refused-as, accepted-with, unless-refused, of-reading, outcome-alone, answer-to, tree-refusal, rows-refusal, limits-refusal, values-refusal, usage-refusal, ids-refusal, total-refusal, counts-refusal}
+use Rattle.paper.specs.Answers.{refusal-of, numbered, refusal-found, verdict-says}
+use Rattle.answers.proofs.Agreement.{one-verdict}
 use Rattle.paper.specs.declared.Fault.{Fault}
 use Rattle.paper.specs.declared.Fault.the-variants.{TooMany, TotalTooLarge}
 use Rattle.paper.specs.declared.Finding.{Finding}
@@ -190,3 +191,12 @@ module _ {s tree order : List ℕ} {f : Finding} (h : Shaped s tree f) where
 pub refused-has : {s tree order : List ℕ} {v : Verdict} {f : Fault} → Decided s tree order v → v ≡ Refused f → outcome-alone rows s ≡ refused-as (refusal-of f)
 refused-has {f = f} (decided-refused {f = x} o) e = let g : x ≡ f = cc in o ∙ ap (λ (z : Fault). refused-as (refusal-of z)) g
 refused-has (decided-accepted l o t q) e = let z : _≡_ {A = ℕ} 0 1 = cc in absurd (omega (arith, z))
+
+-- Two answers that meet `outcome`'s contract agree.
+decided-says : {s tree order : List ℕ} {v : Verdict} → Decided s tree order v → verdict-says v ≡ answer-to (outcome-alone rows s)
+unfolding verdict-says answer-to
+decided-says (decided-refused e) = rw e refl
+decided-says (decided-accepted h e l p) = rw (e, p .blocks-are, p .payments-are, p .total-is) refl
+
+pub decided-agree : {s tree order other-tree other-order : List ℕ} (v w : Verdict) → Decided s tree order v → Decided s other-tree other-order w → v ≡ w
+decided-agree v w a b = one-verdict v w (decided-says a ∙ sym (decided-says b))

@@ -24,6 +24,13 @@ use Rattle.table.specs.Rows.{SpanIs, SpansOf, Fitting}
 use Rattle.table.specs.declared.Span.{Span}
 use Rattle.table.specs.declared.Spans.{Spans}
 
+-- Two answers that meet `span_of`'s contract agree.
+pub spans-agree : {s : List ℕ} {part : Part} (a b : Span) → SpanIs s part a → SpanIs s part b → a ≡ b
+spans-agree a b h k = same-fields (h .start-is ∙ sym (k .start-is)) (h .size-is ∙ sym (k .size-is))
+  where
+    same-fields : {m n p q : ℕ} → m ≡ n → p ≡ q → _≡_ {A = Span} (record { start = m; size = p }) (record { start = n; size = q })
+    same-fields x y = rw (x, y)
+
 module _ {s tree : List ℕ} {o : Option Element} {f : Found} (h : Finds s tree o f) where
   pub nothing : f ≡ Nothing → SpanIs s (part-of o) (record { start = 0; size = 0 })
   unfolding part-of

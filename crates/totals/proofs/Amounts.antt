@@ -186,6 +186,13 @@ totals-agree (total-is p q) (total-above p') = some-not-none (sym p' ∙ p)
 totals-agree (total-above p) (total-is p' q') = some-not-none (sym p ∙ p')
 totals-agree (total-above p) (total-above p') = same-above _ _ (sym p ∙ p')
 
+-- Two answers that meet `sum_of`'s contract agree.
+pub sums-agree : {n : ℕ} {a b : Sum} → Sums n a → Sums n b → a ≡ b
+sums-agree (sums-to e h) (sums-to f k) = ap sum.Cents (sym e ∙ f)
+sums-agree (sums-to e h) (sums-above k) = absurd (omega arith)
+sums-agree (sums-above h) (sums-to f k) = absurd (omega arith)
+sums-agree (sums-above h) (sums-above k) = refl
+
 -- one number of cents and a sum
 module _ {n : ℕ} (c : ℕ) where
   pub same-number : {a : Sum} {m : ℕ} → Sums n a → a ≡ sum.Cents m → eqb c m ≡ eqb c n
