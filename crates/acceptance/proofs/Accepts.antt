@@ -1,7 +1,7 @@
 -- Demand 2 on the definitions: where the table is long enough, the verdict accepts a message exactly where `Accepted` holds of it.
 use Prim.Native.Nat.{ℕ, _≤_}
 use mathlib.Core.List.{List}
-use mathlib.Core.Path.{_≡_, sym, _∙_}
+use mathlib.Core.Path.{_≡_}
 use mathlib.Core.Logic.{_↔_}
 use Rattle.paper.specs.Sizes.{least-table}
 use Rattle.paper.specs.Form.{Element}

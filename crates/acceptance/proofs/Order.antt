@@ -4,18 +4,17 @@ use Prim.Native.Nat.{ℕ, _≤_}
 use lib.Dec.{ltb}
 use native.Mathlib.Omega.{arith}
 use mathlib.Core.List.{List, [], _∷_, List·Memᴰ, List·Memᴰ·head}
-use mathlib.Core.Bool.{Bool, true, false}
 use mathlib.Core.Option.{Option, none, some}
 use mathlib.Core.Path.{_≡_, refl, sym, _∙_, ap, subst}
 use mathlib.Core.Logic.{_↔_}
 use lib.ListN.{length}
 use Rattle.paper.specs.Bytes.{if_then_else_}
 use Rattle.paper.specs.Sizes.{largest-message, least-table}
-use Rattle.paper.specs.Form.{Element, IsMessage, OfTheForm, FirstImpossible}
+use Rattle.paper.specs.Form.{Element, OfTheForm, FirstImpossible}
 use Rattle.paper.specs.Computed.Reading.{Reading, root-is, stops-at, read}
 use Rattle.paper.specs.Rows.{Row}
 use Rattle.paper.specs.Values.{among}
-use Rattle.paper.specs.Refusals.{Refusal, refuse, _or-else_, table-refusal, size-refusal, tree-refusal, Outcome, refused-as, accepted-with, unless-refused, of-reading, outcome-alone, outcome, MessageAnswer, refused, accepted, answer-to, verdict}
+use Rattle.paper.specs.Refusals.{Refusal, _or-else_, table-refusal, size-refusal, tree-refusal, Outcome, refused-as, accepted-with, unless-refused, of-reading, outcome-alone, outcome, MessageAnswer, refused, accepted, answer-to, verdict}
 use Rattle.paper.specs.Accepted.{All, all-none, all-more, RowsKept, LimitsKept, ValuesRight, UsageKept, IdsApart, TotalFits, CountsTrue, Accepted}
 use Rattle.paper.specs.Order.{Stage, for-table, for-size, for-form, for-rows, for-limits, for-values, for-usage, for-ids, for-total, for-counts, order, numbers, OfItsRoot, Holds, FirstNot, this-one, a-later-one}
 use Rattle.paper.proofs.Laws.{some-not-none, all-member}

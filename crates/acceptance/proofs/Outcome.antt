@@ -1,6 +1,6 @@
 -- The verdict accepts a message, with a root, exactly where the table is long enough, the message is not too long, its reading gives that root, and the root's tree is
 -- accepted.
-use Prim.Native.Nat.{ℕ, suc, _≤_}
+use Prim.Native.Nat.{ℕ, _≤_}
 use native.Mathlib.Omega.{arith}
 use mathlib.Core.List.{List, [], _∷_, map}
 use mathlib.Core.Bool.{Bool, true, false}
@@ -15,7 +15,7 @@ use Rattle.paper.specs.Bytes.{if_then_else_}
 use Rattle.paper.specs.Form.{Element}
 use Rattle.paper.specs.Computed.Reading.{Reading, root-is, stops-at, read}
 use Rattle.paper.specs.Rows.{Row}
-use Rattle.paper.specs.Payments.{Payment, all-of, blocks, payments}
+use Rattle.paper.specs.Payments.{Payment, all-of, blocks}
 use Rattle.paper.specs.Refusals.{Refusal, refuse, Outcome, accepted-with, unless-refused, of-reading, tree-refusal, outcome-alone, outcome, size-refusal, table-refusal}
 use Rattle.paper.specs.Accepted.{All, all-none, all-more, AnyText, RowsKept, AcceptedTree}
 use Rattle.paper.proofs.Laws.{both-left, all-map}

@@ -1,19 +1,17 @@
 -- What stands in a message whose root conforms to the rows: its blocks and payments, the leaves that must be there, and the pairs of the table.
-use Prim.Native.Nat.{ℕ, suc, _<_}
-use native.Mathlib.Omega.{arith}
+use Prim.Native.Nat.{ℕ, suc}
 use mathlib.Core.List.{List, [], _∷_, map}
-use mathlib.Core.Bool.{true, false, _&&_}
+use mathlib.Core.Bool.{true}
 use mathlib.Core.Option.{Option, none, some}
-use mathlib.Core.Path.{_≡_, refl, sym, subst}
+use mathlib.Core.Path.{_≡_, refl, sym}
 use mathlib.Core.Logic.{⊎-elim, _⊎_}
-use lib.ListN.{getD}
 use Rattle.paper.specs.Form.{Head, Element}
 use Rattle.paper.specs.Rows.{Row, row-of, Conforms}
-use Rattle.paper.specs.Payments.{Payment, all-of, child, follow, blocks, of-header, header-count, header-sum, block-id, block-count, block-sum, instructed-amount, payments, payments-of, payments-from, in-payment, in-block, either-of, inherited}
+use Rattle.paper.specs.Payments.{Payment, all-of, child, follow, blocks, of-header, header-count, header-sum, block-id, block-count, block-sum, payments, payments-of, payments-from, in-payment, in-block, either-of, inherited}
 use Rattle.paper.specs.Table.{pairs, must-be-there, PairsThere}
-use Rattle.paper.specs.Accepted.{All, all-none, all-more, Each, each-none, each-more, There, AnyText, RowsKept, Used, UsageKept, AcceptedTree, LeavesThere}
+use Rattle.paper.specs.Accepted.{All, all-none, all-more, each-none, each-more, There, AnyText, RowsKept, Used, UsageKept, AcceptedTree, LeavesThere}
 use Rattle.paper.proofs.Laws.{false-not-true, some-not-none, both-left, both-right, all-joined, all-map}
-use Rattle.acceptance.proofs.Routes.{steps, must-steps, step-all, follow-conforms, follow-there, EndsAs}
+use Rattle.acceptance.proofs.Routes.{steps, step-all, follow-conforms, follow-there, EndsAs}
 use Rattle.acceptance.proofs.Proper.{leads, Proper}
 
 module _ (profile : List Row) (proper : Proper profile) (Right : (parent : ℕ) → Row → Head → List ℕ → Type 0) where

@@ -6,7 +6,7 @@ use mathlib.Core.Bool.{Bool, true, false, _&&_, _||_, not}
 use mathlib.Core.Option.{Option, none, some}
 use mathlib.Core.Path.{_≡_, refl, sym, _∙_, ap, subst}
 use mathlib.Core.Logic.{_↔_, _⊎_, inl, inr, ⊎-elim}
-use borrow.Author.Tests.{eqb-true, eqb-false, eq-eqb, ne-eqb, ltb-true, lt-ltb, leb-true, le-leb, not-true, not-false}
+use borrow.Author.Tests.{eqb-true, eqb-false, eq-eqb, ne-eqb, ltb-true, lt-ltb, leb-true, le-leb, not-false}
 use lib.ListN.{length, length-append, length-map}
 use lib.Dec.{eqb, leb, ltb}
 use Rattle.paper.specs.Bytes.{if_then_else_, value-character, every, same}
@@ -16,7 +16,7 @@ use Rattle.paper.specs.Values.{lies-from, allowed, number, cents}
 use Rattle.paper.specs.Payments.{Payment, text-of, all-of, blocks, header-count, header-sum, block-id, block-count, block-sum, instructed-amount, payments, payments-from, payments-of, in-payment, in-block, amount-of, sum-of, total}
 use Rattle.paper.specs.Refusals.{Refusal, refuse, _or-else_, leaf-refusal, no-judgement, among-texts, unless, at-of, sixty-fifth, too-many, in-both, in-neither, usage-of, usage, repeated, block-counts, rows-refusal, values-refusal, limits-refusal, usage-refusal, ids-refusal, total-refusal, counts-refusal}
 use Rattle.paper.specs.Accepted.{All, all-none, all-more, Each, each-none, each-more, Distinct, distinct-none, distinct-more, AnyText, RightText, There, Says, RowsKept, LimitsKept, ValuesRight, NotBoth, Used, UsageKept, IdsApart, Sum, sum-none, sum-more, TotalFits, Truthful, CountsTrue}
-use Rattle.paper.proofs.Laws.{false-not-true, some-not-none, both, both-left, both-right, every-says, every-tests, same-says, same-tests, all-member, all-map, all-from}
+use Rattle.paper.proofs.Laws.{false-not-true, some-not-none, both-left, both-right, every-says, every-tests, same-says, same-tests, all-member, all-map, all-from}
 use Rattle.acceptance.proofs.Rows.{neither, or-none, refuses, RowsApart, walk-conforms, conforms-walk}
 
 -- 6 to 8 at one leaf

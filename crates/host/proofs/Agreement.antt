@@ -124,11 +124,6 @@ pub left-stays : {message before after : List ℕ} {r : OfMessage} → HostVerdi
 left-stays {message} {before} a =
     ap left-over (a .table-is) ∙ left-of-outcome (outcome rows (numbers-held before) message) before (room-for-all message before (outcome rows (numbers-held before) message) refl)
 
--- 999,999,999 euros, as they stand in the table
-an-amount : four-bytes 999999999 ≡ 59 ∷ 154 ∷ 201 ∷ 255 ∷ []
-unfolding four-bytes
-an-amount = refl
-
 -- The six numbers. Of a message: number 0 exactly when the table is long enough and the rules hold; counts of zero on every refusal; no element and no offset where it is
 -- accepted.
 module _ {message before after : List ℕ} {r : OfMessage} (a : HostVerdictPromise message before r after) where

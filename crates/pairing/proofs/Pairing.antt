@@ -1,5 +1,5 @@
 -- The walk over a list of ordinals refuses nothing exactly where the list pairs the payments of the first message with those of the second.
-use Prim.Native.Nat.{ℕ, zero, suc, _<_}
+use Prim.Native.Nat.{ℕ, suc, _<_}
 use native.Mathlib.Omega.{arith}
 use mathlib.Core.List.{List, [], _∷_, List·Memᴰ, List·Memᴰ·head, List·Memᴰ·tail, List·Memᴰ·cases-cons, Memᴰ·cast}
 use mathlib.Core.Bool.{Bool, true, false, _&&_, _||_, not}

@@ -18,7 +18,7 @@ use Rattle.paper.specs.Refusals.{Refusal, Outcome, refused-as, accepted-with, o
 use Rattle.paper.specs.Accepted.{All, all-none, all-more, Each, each-none, each-more, Accepted}
 use Rattle.paper.specs.Fields.{Value, values-of}
 use Rattle.paper.specs.Regrouping.{RegroupingAnswer, message-refused, answered, add-first, numbers-16, counted, ordinals-of, two-bytes, file-of, same-payment, often, pairing, of-payments, all-values, of-outcomes, regrouping, At, at-first, at-later, Names, Regroups, AcceptableList, EquallyOften}
-use Rattle.paper.proofs.Laws.{false-not-true, some-not-none, both, both-left, both-right, same-says, all-map, all-from, all-joined}
+use Rattle.paper.proofs.Laws.{some-not-none, both-left, both-right, same-says, all-map, all-from, all-joined}
 use Rattle.acceptance.proofs.Proper.{Proper}
 use Rattle.acceptance.proofs.Accepts.{accepted-from, outcome-of}
 use Rattle.pairing.proofs.Counting as counting

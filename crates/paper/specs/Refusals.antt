@@ -9,7 +9,7 @@ use Rattle.paper.specs.Sizes.{largest-message, least-table, most-blocks,
 use Rattle.paper.specs.Bytes.{if_then_else_, white, value-character, every, same}
 use Rattle.paper.specs.Form.{Head, Element, Elements, holding-text, holding-elements, []ᵉ, _∷ᵉ_}
 use Rattle.paper.specs.Computed.Reading.{Reading, root-is, stops-at, read}
-use Rattle.paper.specs.Rows.{Place, one, opt, plus, either, Holds, text, elements, Row, name, row-of, longest-of, head-of}
+use Rattle.paper.specs.Rows.{Place, one, opt, plus, either, text, elements, Row, name, row-of, longest-of, head-of}
 use Rattle.paper.specs.Values.{lies-from, allowed, number, cents}
 use Rattle.paper.specs.Payments.{Payment, text-of, all-of, blocks, header-count, header-sum, block-id, block-count, block-sum, payments, in-payment, in-block, sum-of, total}
 

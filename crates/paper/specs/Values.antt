@@ -1,5 +1,5 @@
 -- What a value may be (docs/RULES.md, 4): a rule for each kind, over the text alone. (Length and characters are refusals 6 and 7, and are asked first.)
-use Prim.Native.Nat.{ℕ, suc, _+_, _*_, _-_, _%_}
+use Prim.Native.Nat.{ℕ, _+_, _*_, _-_, _%_}
 use Prim.Native.Char.{Char, code}
 use Prim.Native.String.{String, [] as []ˢ, _∷_ as _∷ˢ_}
 use mathlib.Core.List.{List, [], _∷_, _++_}

@@ -1,16 +1,11 @@
--- Two answers on a leaf that meet the contract are the same, and what the answer `Fine` says of the text.
-use Prim.Native.Nat.{ℕ, _+_}
+-- Two answers on a leaf that meet the contract are the same.
+use Prim.Native.Nat.{ℕ}
 use mathlib.Core.Path.{_≡_, refl, ap, sym, _∙_}
 use mathlib.Core.List.{List, []}
-use mathlib.Core.Option.{none}
 use native.Mathlib.Omega.{arith}
-use mathlib.Core.Bool.{Bool, true, false, not}
-use lib.ListN.{length}
-use Rattle.paper.specs.Bytes.{if_then_else_, every, value-character}
-use Rattle.paper.specs.Values.{lies-from, allowed}
 use Rattle.paper.specs.Form.{Head}
 use Rattle.paper.specs.Rows.{Row, text, longest-of}
-use Rattle.paper.specs.Refusals.{refuse, first-not, leaf-refusal}
+use Rattle.paper.specs.Refusals.{refuse}
 use Rattle.paper.proofs.Laws.{number-of, offset-of}
 use Rattle.values.specs.Judgements.{told, Judges}
 use Rattle.values.specs.declared.Judgement.{Judgement}
@@ -53,26 +48,3 @@ one-judgement parent row longest currency w a b ja jb =
     let r = row-of-leaf row longest in
     let h = head-in currency in
     told-one row h a b (sym (ja .judged r h refl refl refl) ∙ jb .judged r h refl refl refl)
-
--- What `Fine` says of a text.
-pub record Right (parent row longest : ℕ) (currency w : List ℕ) : Type 0 where
-  pub long-enough : lies-from 1 longest (length w) ≡ true
-  pub in-the-set : every value-character w ≡ true
-  pub as-the-row-says : allowed parent row currency w ≡ true
-
-pub fine-is-right :
-    (parent row longest : ℕ) (currency w : List ℕ) → Judges parent row longest currency w Fine → Right parent row longest currency w
-unfolding longest-of leaf-refusal told refuse number-of row-of-leaf head-in
-fine-is-right parent row longest currency w j =
-    by (lies-from 1 longest (length w)) (every value-character w) (allowed parent row currency w) refl refl refl
-    (j .judged (row-of-leaf row longest) (head-in currency) refl refl refl)
-  where
-    by :
-        (a b d : Bool) → lies-from 1 longest (length w) ≡ a → every value-character w ≡ b → allowed parent row currency w ≡ d →
-        (if not a then refuse 6 row 0 else
-        if not b then refuse 7 row (0 + first-not value-character w) else
-        if not d then refuse 8 row 0 else none) ≡ none → Right parent row longest currency w
-    by true true true e f h k = record { long-enough = e; in-the-set = f; as-the-row-says = h }
-    by true true false e f h k = differ (omega arith) (ap number-of k)
-    by true false d e f h k = differ (omega arith) (ap number-of k)
-    by false b d e f h k = differ (omega arith) (ap number-of k)
