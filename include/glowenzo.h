@@ -19,10 +19,7 @@
 extern "C" {
 #endif
 
-/*
- * Why a message is refused: the number of the refusal (docs/RULES.md, 6). `element` is a row of its section 3, 0 where none is named; `offset` is a byte of
- * the message.
- */
+/* Why a message is refused: its number (docs/RULES.md, 6). `element` is a row of section 3 there, 0 where none is named; `offset` is a byte of the message. */
 enum {
     GLOWENZO_ACCEPTED = 0,
     GLOWENZO_TOO_LONG = 1,               /* over 32,768 bytes; offset 32768 */
@@ -74,9 +71,9 @@ typedef struct {
 } glowenzo_regroup_t;
 
 /*
- * The table (docs/RULES.md, 7 and 10): numbers of four bytes each, high byte first. One to three bytes left at its end make no number and stay as they are. It must have room for
- * 1,024 numbers (4,096 bytes) or more. It is written only if the message is accepted: then payment k, from 0, has the numbers 16k to 16k + 15, and
- * every other byte stays as it is. A start and a length name a part of the message.
+ * The table (docs/RULES.md, 7 and 10): numbers of four bytes each, high byte first. One to three bytes left at its end make no number and stay as they
+ * are. It must have room for 1,024 numbers (4,096 bytes) or more. It is written only if the message is accepted: then payment k, from 0, has the numbers
+ * 16k to 16k + 15, and every other byte stays as it is. A start and a length name a part of the message.
  */
 enum {
     GLOWENZO_TABLE_BYTES = 4096,         /* the least table that is long enough, for every message */

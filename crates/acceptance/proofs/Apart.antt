@@ -6,7 +6,7 @@ use mathlib.Core.Path.{_≡_, refl, sym, ap, _∙_}
 use lib.Dec.{eqb}
 use borrow.Author.Tests.{not-true}
 use Rattle.paper.specs.Bytes.{if_then_else_, bytes, same}
-use Rattle.paper.specs.Rows.{Holds, text, elements, Row, leaf, group, group-under, rows, name-in, name, row-of}
+use Rattle.paper.specs.Rows.{Contents, text, elements, Row, leaf, group, group-under, rows, name-in, name, row-of}
 use Rattle.paper.specs.Refusals.{rows-at}
 use Rattle.paper.specs.Accepted.{All, all-none, all-more}
 use Rattle.paper.proofs.Laws.{false-not-true, both-left, both-right, same-tests}
@@ -37,7 +37,7 @@ unfolding all-unlike
 all-unlike-says [] e = apart-none
 all-unlike-says (k ∷ ks) e = apart-more (unlike-says k ks (both-left (unlike k ks) _ e)) (all-unlike-says ks (both-right (unlike k ks) _ e))
 
-test-holds : Holds → Bool
+test-holds : Contents → Bool
 test-holds (text longest) = true
 test-holds (elements places) = all-unlike (rows-of places)
 
@@ -45,7 +45,7 @@ test-rows : List Row → Bool
 test-rows [] = true
 test-rows (r ∷ rs) = test-holds (r .holds) && test-rows rs
 
-holds-apart : (holds : Holds) → test-holds holds ≡ true → elim holds as (λ _. Type 0) [ text longest ↦ Unit {0} | elements places ↦ Apart (rows-of places) ]
+holds-apart : (holds : Contents) → test-holds holds ≡ true → elim holds as (λ _. Type 0) [ text longest ↦ Unit {0} | elements places ↦ Apart (rows-of places) ]
 unfolding test-holds
 holds-apart (text longest) e = tt
 holds-apart (elements places) e = all-unlike-says (rows-of places) e

@@ -8,7 +8,7 @@ use mathlib.Core.Path.{_≡_, refl, subst}
 use lib.ListN.{length}
 use Rattle.paper.specs.Bytes.{if_then_else_, value-character, every}
 use Rattle.paper.specs.Form.{Head, Element, Elements, holding-text, holding-elements, []ᵉ, _∷ᵉ_}
-use Rattle.paper.specs.Rows.{Place, Holds, text, elements, Row, row-of, longest-of, head-of}
+use Rattle.paper.specs.Rows.{Place, Contents, text, elements, Row, row-of, longest-of, head-of}
 use Rattle.paper.specs.Values.{allowed, lies-from}
 use Rattle.paper.specs.Refusals.{Refusal, refuse, _or-else_, Left, from-here, only-white, first-at, Sought, never, early, found, seek, no-judgement, leaf-refusal, walk, walk-all, rows-refusal, values-refusal}
 use Rattle.paper.proofs.Laws.{some-not-none}
@@ -35,7 +35,7 @@ leaf-kept parent r h w =
     (if-kept (not (every value-character w)) (of-a-leaf (List·Memᴰ·tail (List·Memᴰ·head refl)))
     (if-kept (not (allowed parent (r .row) (h .currency) w)) (of-a-leaf (List·Memᴰ·tail (List·Memᴰ·tail (List·Memᴰ·head refl)))) (as-found refl)))
 
-text-kept : (holds : Holds) (parent : ℕ) (r : Row) (h : Head) (w : List ℕ)
+text-kept : (holds : Contents) (parent : ℕ) (r : Row) (h : Head) (w : List ℕ)
     → Kept (elim holds [ text longest ↦ leaf-refusal parent r h w | elements places ↦ only-white (r .row) places h w ])
     (elim holds [ text longest ↦ no-judgement parent r h w | elements places ↦ only-white (r .row) places h w ])
 unfolding no-judgement
@@ -43,7 +43,7 @@ text-kept (text longest) parent r h w = leaf-kept parent r h w
 text-kept (elements places) parent r h w = as-found refl
 
 module _ (profile : List Row) where
-  elements-kept : (holds : Holds) (r : Row) (h : Head) (ts : Elements)
+  elements-kept : (holds : Contents) (r : Row) (h : Head) (ts : Elements)
       → ((places : List Place)
       → Kept (walk-all profile leaf-refusal ts (r .row) (from-here places) (h .close)) (walk-all profile no-judgement ts (r .row) (from-here places) (h .close)))
       → Kept

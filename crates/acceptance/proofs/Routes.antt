@@ -10,7 +10,7 @@ use borrow.Author.Tests.{eqb-true}
 use lib.Dec.{eqb}
 use Rattle.paper.specs.Bytes.{if_then_else_, white, same, Every}
 use Rattle.paper.specs.Form.{Head, Element, Elements, holding-text, holding-elements, []ᵉ, _∷ᵉ_}
-use Rattle.paper.specs.Rows.{Place, Holds, text, elements, Row, name, row-of, head-of, Arranged, end, exactly-one, there, not-there, the-last, one-before, chosen, Conforms, Conform}
+use Rattle.paper.specs.Rows.{Place, Contents, text, elements, Row, name, row-of, head-of, Arranged, end, exactly-one, there, not-there, the-last, one-before, chosen, Conforms, Conform}
 use Rattle.paper.specs.Values.{among}
 use Rattle.paper.specs.Payments.{listed, children, all-named, all-of, child, follow, text-of}
 use Rattle.paper.specs.Refusals.{rows-at}
@@ -82,7 +82,7 @@ module _ (profile : List Row) (Right : (parent : ℕ) → Row → Head → List 
   all-conform (holding-text h w) parent r k a e c = all-none
   all-conform (holding-elements h ts) parent r k a e c = go (r .holds) a e c
     where
-      go : (holds : Holds) → (elim holds as (λ _. Type 0) [ text longest ↦ Unit {0} | elements places ↦ Apart (rows-of places) ])
+      go : (holds : Contents) → (elim holds as (λ _. Type 0) [ text longest ↦ Unit {0} | elements places ↦ Apart (rows-of places) ])
           → _≡_ {A = Bool} (elim holds [ text longest ↦ false | elements places ↦ among k (rows-of places) ]) true
           → (elim holds as (λ _. Type 0) [ text longest ↦ ⊥ | elements places ↦ (ks : List ℕ) × Arranged places ks × Conform profile Right ts (r .row) ks ])
           → All (λ u. Conforms profile Right u (r .row) (row-of profile (r .row) k)) (all-named k (listed ts))
@@ -121,13 +121,13 @@ module _ (profile : List Row) (Right : (parent : ℕ) → Row → Head → List 
   unfolding child all-of children must-take Conforms
   child-there (holding-text h w) parent r k e c = absurd (go (r .holds) e c)
     where
-      go : (holds : Holds) → _≡_ {A = Bool} (elim holds [ text longest ↦ false | elements places ↦ must k places ]) true
+      go : (holds : Contents) → _≡_ {A = Bool} (elim holds [ text longest ↦ false | elements places ↦ must k places ]) true
           → (elim holds as (λ _. Type 0) [ text longest ↦ Right parent r h w | elements places ↦ Every white w × Arranged places [] ]) → ⊥
       go (text longest) e c = let z : _≡_ {A = ℕ} 0 1 = cc in omega (arith, z)
       go (elements places) e c = List·Memᴰ·not-nil (must-be-there k e (c .1))
   child-there (holding-elements h ts) parent r k e c = go (r .holds) e c
     where
-      go : (holds : Holds) → _≡_ {A = Bool} (elim holds [ text longest ↦ false | elements places ↦ must k places ]) true
+      go : (holds : Contents) → _≡_ {A = Bool} (elim holds [ text longest ↦ false | elements places ↦ must k places ]) true
           → (elim holds as (λ _. Type 0) [ text longest ↦ ⊥ | elements places ↦ (ks : List ℕ) × Arranged places ks × Conform profile Right ts (r .row) ks ])
           → There (elim (all-named k (listed ts)) as (λ _. Option Element) [ [] ↦ none | v ∷ vs ↦ some v ])
       go (text longest) e c = absurd c
@@ -139,13 +139,13 @@ module _ (profile : List Row) (Right : (parent : ℕ) → Row → Head → List 
   unfolding Conforms head-of text-of
   leaf-conforms (holding-text h w) parent r longest e c = go (r .holds) e c
     where
-      go : (holds : Holds) → holds ≡ text longest
+      go : (holds : Contents) → holds ≡ text longest
           → (elim holds as (λ _. Type 0) [ text longest ↦ Right parent r h w | elements places ↦ Every white w × Arranged places [] ]) → Right parent r h w
       go (text n) e c = c
       go (elements ps) e c = let z : _≡_ {A = ℕ} 0 1 = cc in absurd (omega (arith, z))
   leaf-conforms (holding-elements h ts) parent r longest e c = absurd (go (r .holds) e c)
     where
-      go : (holds : Holds) → holds ≡ text longest
+      go : (holds : Contents) → holds ≡ text longest
           → (elim holds as (λ _. Type 0) [ text longest ↦ ⊥ | elements places ↦ (ks : List ℕ) × Arranged places ks × Conform profile Right ts (r .row) ks ]) → ⊥
       go (text n) e c = c
       go (elements ps) e c = let z : _≡_ {A = ℕ} 0 1 = cc in omega (arith, z)

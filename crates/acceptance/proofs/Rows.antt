@@ -7,7 +7,7 @@ use mathlib.Core.Option.{Option, none, some}
 use mathlib.Core.Path.{_≡_, refl, _∙_, ap, subst}
 use Rattle.paper.specs.Bytes.{if_then_else_, white, every, Every}
 use Rattle.paper.specs.Form.{Head, Element, Elements, holding-text, holding-elements, []ᵉ, _∷ᵉ_}
-use Rattle.paper.specs.Rows.{Place, Holds, text, elements, Row, row-of, head-of, Arranged, Conforms, Conform}
+use Rattle.paper.specs.Rows.{Place, Contents, text, elements, Row, row-of, head-of, Arranged, Conforms, Conform}
 use Rattle.paper.specs.Refusals.{Refusal, refuse, _or-else_, Left, from-here, missing, ends, only-white, first-at, first-not, Sought, never, early, found, seek, Judgement, walk, walk-all}
 use Rattle.paper.proofs.Laws.{some-not-none, every-says, every-tests}
 use Rattle.acceptance.proofs.Arranged.{ArrangedLeft, as-places, nothing-missing, missing-nothing, seek-arranged, rows-of, Apart, ApartLeft, arranged-seek}
@@ -60,13 +60,13 @@ RowsApart r = elim (r .holds) [ text longest ↦ Unit {0} | elements places ↦ 
 module _ (profile : List Row) (judge : Judgement) (Right : (parent : ℕ) → Row → Head → List ℕ → Type 0) where
   -- No refusal: it conforms.
   module _ (judges : (parent : ℕ) (r : Row) (h : Head) (w : List ℕ) → judge parent r h w ≡ none → Right parent r h w) where
-    text-conforms : (holds : Holds) (parent : ℕ) (r : Row) (h : Head) (w : List ℕ)
+    text-conforms : (holds : Contents) (parent : ℕ) (r : Row) (h : Head) (w : List ℕ)
         → _≡_ {A = Option Refusal} (elim holds [ text longest ↦ judge parent r h w | elements places ↦ only-white (r .row) places h w ]) none
         → elim holds as (λ _. Type 0) [ text longest ↦ Right parent r h w | elements places ↦ Every white w × Arranged places [] ]
     text-conforms (text longest) parent r h w e = judges parent r h w e
     text-conforms (elements places) parent r h w e = white-conforms (r .row) places h w e
 
-    elements-conform : (holds : Holds) (r : Row) (h : Head) (ts : Elements)
+    elements-conform : (holds : Contents) (r : Row) (h : Head) (ts : Elements)
         → ((places : List Place) → walk-all profile judge ts (r .row) (from-here places) (h .close) ≡ none
         → (ks : List ℕ) × ArrangedLeft (from-here places) ks × Conform profile Right ts (r .row) ks)
         → _≡_ {A = Option Refusal}
@@ -112,13 +112,13 @@ module _ (profile : List Row) (judge : Judgement) (Right : (parent : ℕ) → Ro
   -- It conforms: no refusal.
   module _ (judged : (parent : ℕ) (r : Row) (h : Head) (w : List ℕ) → Right parent r h w → judge parent r h w ≡ none)
       (apart : (parent k : ℕ) → RowsApart (row-of profile parent k)) where
-    conforms-text : (holds : Holds) (parent : ℕ) (r : Row) (h : Head) (w : List ℕ)
+    conforms-text : (holds : Contents) (parent : ℕ) (r : Row) (h : Head) (w : List ℕ)
         → (elim holds as (λ _. Type 0) [ text longest ↦ Right parent r h w | elements places ↦ Every white w × Arranged places [] ])
         → _≡_ {A = Option Refusal} (elim holds [ text longest ↦ judge parent r h w | elements places ↦ only-white (r .row) places h w ]) none
     conforms-text (text longest) parent r h w c = judged parent r h w c
     conforms-text (elements places) parent r h w c = conforms-white (r .row) places h w c
 
-    conform-elements : (holds : Holds) (r : Row) (h : Head) (ts : Elements)
+    conform-elements : (holds : Contents) (r : Row) (h : Head) (ts : Elements)
         → (elim holds as (λ _. Type 0) [ text longest ↦ Unit {0} | elements places ↦ Apart (rows-of places) ])
         → ((places : List Place) (ks : List ℕ) → Apart (rows-of places) → ArrangedLeft (from-here places) ks → Conform profile Right ts (r .row) ks
         → walk-all profile judge ts (r .row) (from-here places) (h .close) ≡ none)

@@ -14,16 +14,16 @@ pub data Place : Type 0 where
   one opt plus : ℕ → Place
   either : List ℕ → Place
 
-pub data Holds : Type 0 where
-  text : (longest : ℕ) → Holds
-  elements : List Place → Holds
+pub data Contents : Type 0 where
+  text : (longest : ℕ) → Contents
+  elements : List Place → Contents
 
 -- A row: its number, its name and what it holds. Where that depends on the group above, `under` is that group's row; elsewhere it is 0.
 pub record Row : Type 0 where
   pub row : ℕ
   pub under : ℕ
   pub name : List ℕ
-  pub holds : Holds
+  pub holds : Contents
 
 unfoldable pub leaf : ℕ → String → ℕ → Row
 leaf row name longest = record { row = row; under = 0; name = bytes name; holds = text longest }
@@ -110,7 +110,7 @@ row-of (r ∷ rs) parent k =
     if eqb (r .row) k && (eqb (r .under) 0 || eqb (r .under) parent) then r else row-of rs parent k
 
 -- the longest length of a leaf's text
-unfoldable pub longest-of : Holds → ℕ
+unfoldable pub longest-of : Contents → ℕ
 longest-of (text longest) = longest
 longest-of (elements places) = 0
 

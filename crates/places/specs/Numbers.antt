@@ -8,7 +8,7 @@ use mathlib.Core.Path.{_≡_}
 use lib.Dec.{eqb}
 use lib.ListN.{getD}
 use Rattle.paper.specs.Bytes.{if_then_else_}
-use Rattle.paper.specs.Rows.{Place, one, opt, plus, either, name, Holds, text, elements, Row, row-of}
+use Rattle.paper.specs.Rows.{Place, one, opt, plus, either, name, Contents, text, elements, Row, row-of}
 use Rattle.paper.specs.Refusals.{Left, from-here, again}
 use Rattle.tree.specs.Laid.{between}
 
@@ -46,7 +46,7 @@ module _ (rows places : List ℕ) where
   places-left p false q = from-here (places-between p q)
   places-left p true q = again (first-of rows places p) (places-between (p + 1) q)
 
-  unfoldable pub holds-at : ℕ → Holds
+  unfoldable pub holds-at : ℕ → Contents
   holds-at e = if eqb (of-entry rows e 4) 0 then elements (places-between (of-entry rows e 5) (of-entry rows e 6)) else text (of-entry rows e 4)
 
 abbrev pub name-at : (names rows : List ℕ) → ℕ → List ℕ

@@ -8,7 +8,7 @@ use native.Mathlib.Omega.{arith}
 use borrow.Author.Tests.{eq-eqb, ne-eqb}
 use Rattle.paper.specs.Bytes.{bytes}
 use Rattle.paper.specs.Form.{Head, Element, Elements, holding-text, holding-elements, []ᵉ, _∷ᵉ_}
-use Rattle.paper.specs.Rows.{name, name-in, rows as the-rows, leaf, group, group-under, Place, Holds, text, elements, Row, row-of, head-of, longest-of}
+use Rattle.paper.specs.Rows.{name, name-in, rows as the-rows, leaf, group, group-under, Place, Contents, text, elements, Row, row-of, head-of, longest-of}
 use Rattle.paper.specs.Refusals.{Refusal, refuse, _or-else_, ends, only-white, first-at, Sought, never, early, found, seek, Left, from-here, walk, walk-all}
 use Rattle.paper.specs.Answers.{refusal-found}
 use Rattle.paper.specs.declared.Finding.{Finding}
@@ -65,19 +65,19 @@ module _ (profile : List Row) (judge : (parent : ℕ) → Row → Head → List 
   pub walk-white : (w : List ℕ) (ps : List Place) → r .holds ≡ elements ps → walk profile judge (holding-text h w) parent r ≡ only-white (r .row) ps h w
   unfolding walk
   walk-white w ps e =
-      ap (λ (o : Holds). elim o as (λ _. Option Refusal) [ text longest ↦ judge parent r h w | elements places ↦ only-white (r .row) places h w ]) e
+      ap (λ (o : Contents). elim o as (λ _. Option Refusal) [ text longest ↦ judge parent r h w | elements places ↦ only-white (r .row) places h w ]) e
 
   pub walk-leaf : (w : List ℕ) (n : ℕ) → r .holds ≡ text n → walk profile judge (holding-text h w) parent r ≡ judge parent r h w
   unfolding walk
   walk-leaf w n e =
-      ap (λ (o : Holds). elim o as (λ _. Option Refusal) [ text longest ↦ judge parent r h w | elements places ↦ only-white (r .row) places h w ]) e
+      ap (λ (o : Contents). elim o as (λ _. Option Refusal) [ text longest ↦ judge parent r h w | elements places ↦ only-white (r .row) places h w ]) e
 
   module _ (ts : Elements) where
     pub walk-group : (ps : List Place) → r .holds ≡ elements ps → walk profile judge (holding-elements h ts) parent r ≡ walk-all profile judge ts (r .row) (from-here ps) (h .close)
     unfolding walk
     walk-group ps e =
         ap
-        (λ (o : Holds).
+        (λ (o : Contents).
         elim o as (λ _. Option Refusal) [
           | text longest ↦ refuse 3 (r .row) (first-at ts (h .start))
           | elements places ↦ walk-all profile judge ts (r .row) (from-here places) (h .close)
@@ -87,7 +87,7 @@ module _ (profile : List Row) (judge : (parent : ℕ) → Row → Head → List 
     unfolding walk
     walk-in-leaf n e =
         ap
-        (λ (o : Holds).
+        (λ (o : Contents).
         elim o as (λ _. Option Refusal) [
           | text longest ↦ refuse 3 (r .row) (first-at ts (h .start))
           | elements places ↦ walk-all profile judge ts (r .row) (from-here places) (h .close)
