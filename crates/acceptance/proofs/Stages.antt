@@ -15,7 +15,7 @@ use Rattle.paper.specs.Rows.{Row, row-of, longest-of, head-of}
 use Rattle.paper.specs.Values.{lies-from, allowed, number, cents}
 use Rattle.paper.specs.Payments.{Payment, text-of, all-of, blocks, header-count, header-sum, block-id, block-count, block-sum, instructed-amount, payments, payments-from, payments-of, in-payment, in-block, amount-of, sum-of, total}
 use Rattle.paper.specs.Refusals.{Refusal, refuse, _or-else_, leaf-refusal, no-judgement, among-texts, unless, at-of, sixty-fifth, too-many, in-both, in-neither, usage-of, usage, repeated, block-counts, rows-refusal, values-refusal, limits-refusal, usage-refusal, ids-refusal, total-refusal, counts-refusal}
-use Rattle.paper.specs.Accepted.{All, all-none, all-more, Each, each-none, each-more, Distinct, distinct-none, distinct-more, AnyText, RightText, There, Says, RowsKept, LimitsKept, ValuesRight, NotBoth, Used, UsageKept, IdsApart, Sum, sum-none, sum-more, TotalFits, Truthful, CountsTrue}
+use Rattle.paper.specs.Accepted.{All, all-none, all-more, EachWith, each-none, each-more, Distinct, distinct-none, distinct-more, AnyText, RightText, There, Says, RowsKept, LimitsKept, ValuesRight, NotBoth, Used, UsageKept, IdsApart, Sum, sum-none, sum-more, TotalFits, Truthful, CountsTrue}
 use Rattle.paper.proofs.Laws.{false-not-true, some-not-none, both-left, both-right, every-says, every-tests, same-says, same-tests, all-member, all-map, all-from}
 use Rattle.acceptance.proofs.Rows.{neither, or-none, refuses, RowsApart, walk-conforms, conforms-walk}
 
@@ -221,7 +221,7 @@ HasId b id = Says (λ w. w) (block-id b) id
 
 record NewIds (earlier : List (List ℕ)) (bs : List Element) : Type 0 where
   its-ids : List (List ℕ)
-  has-its-own : Each HasId bs its-ids
+  has-its-own : EachWith HasId bs its-ids
   new : New earlier its-ids
 
 ids-new : (earlier : List (List ℕ)) (bs : List Element) → repeated earlier bs ≡ none → NewIds earlier bs
@@ -251,7 +251,7 @@ ids-new earlier (b ∷ bs) e = go (block-id b) refl e (λ w f. ids-new (w ∷ ea
     go none s f above = refuses _ _ _ f
     go (some t) s f above = fresh t s (among-texts (text-of t) earlier) refl f (above (text-of t))
 
-new-ids : (earlier : List (List ℕ)) {bs : List Element} {ws : List (List ℕ)} → Each HasId bs ws → New earlier ws → repeated earlier bs ≡ none
+new-ids : (earlier : List (List ℕ)) {bs : List Element} {ws : List (List ℕ)} → EachWith HasId bs ws → New earlier ws → repeated earlier bs ≡ none
 unfolding repeated
 new-ids earlier each-none n = refl
 new-ids earlier (each-more {a = b} {b = w} {l = bs} s h) n = go (s .stands-there) (s .says) (new-ids (w ∷ earlier) h (new-rest n))

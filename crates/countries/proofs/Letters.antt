@@ -2,13 +2,12 @@
 use Prim.Native.Nat.{ℕ}
 use mathlib.Core.Path.{_≡_, refl, ap}
 use mathlib.Core.List.{List, [], _∷_, _++_}
-use mathlib.Core.Bool.{Bool, true, false, _&&_, _||_}
+use mathlib.Core.Bool.{Bool, true, false, _&&_, _||_, or-false}
 use lib.ListN.{length, take}
 use lib.Dec.{eqb}
 use Rattle.paper.specs.Bytes.{if_then_else_, same}
 use Rattle.paper.specs.Values.{Country, of-a-country}
 use Rattle.paper.specs.Refusals.{among-texts}
-use Rattle.paper.proofs.Laws.{or-false}
 use Rattle.countries.specs.Letters.{letters-of}
 use Rattle.texts.proofs.Laws.{same-swap}
 

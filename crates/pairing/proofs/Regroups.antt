@@ -15,7 +15,7 @@ use Rattle.paper.specs.Form.{Element}
 use Rattle.paper.specs.Rows.{Row}
 use Rattle.paper.specs.Payments.{Payment, payments}
 use Rattle.paper.specs.Refusals.{Refusal, Outcome, refused-as, accepted-with, outcome-alone}
-use Rattle.paper.specs.Accepted.{All, all-none, all-more, Each, each-none, each-more, Accepted}
+use Rattle.paper.specs.Accepted.{All, all-none, all-more, EachWith, each-none, each-more, Accepted}
 use Rattle.paper.specs.Fields.{Value, values-of}
 use Rattle.paper.specs.Regrouping.{RegroupingAnswer, message-refused, answered, add-first, numbers-16, counted, ordinals-of, two-bytes, file-of, same-payment, often, pairing, of-payments, all-values, of-outcomes, regrouping, At, at-first, at-later, Names, Regroups, AcceptableList, EquallyOften}
 use Rattle.paper.proofs.Laws.{some-not-none, both-left, both-right, same-says, all-map, all-from, all-joined}
@@ -50,19 +50,19 @@ values-at [] o h = absurd (omega arith)
 values-at (p ∷ l) zero h = (p, at-first)
 values-at (p ∷ l) (suc o) h = let r = values-at l o (omega arith) in (r .0, at-later (r .1))
 
-each-named : (first : List Payment) {os : List ℕ} {second : List Payment} → Each (Names first) os second → NamedAs (map values-of first) os (map values-of second)
+each-named : (first : List Payment) {os : List ℕ} {second : List Payment} → EachWith (Names first) os second → NamedAs (map values-of first) os (map values-of second)
 each-named first each-none = names-none
 each-named first (each-more n h) = names-more (at-values (n .is-named) ∙ n .equal) (each-named first h)
 
-each-within : (first : List Payment) {os : List ℕ} {second : List Payment} → Each (Names first) os second → All (λ o. o < length first) os
+each-within : (first : List Payment) {os : List ℕ} {second : List Payment} → EachWith (Names first) os second → All (λ o. o < length first) os
 each-within first each-none = all-none
 each-within first (each-more n h) = all-more (at-within (n .is-named)) (each-within first h)
 
-each-many : {A B : Type 0} {R : A → B → Type 0} {l : List A} {m : List B} → Each R l m → length l ≡ length m
+each-many : {A B : Type 0} {R : A → B → Type 0} {l : List A} {m : List B} → EachWith R l m → length l ≡ length m
 each-many each-none = refl
 each-many (each-more r h) = ap suc (each-many h)
 
-named-each : (first second : List Payment) {os : List ℕ} → All (λ o. o < length first) os → NamedAs (map values-of first) os (map values-of second) → Each (Names first) os second
+named-each : (first second : List Payment) {os : List ℕ} → All (λ o. o < length first) os → NamedAs (map values-of first) os (map values-of second) → EachWith (Names first) os second
 named-each first [] all-none n = each-none
 named-each first [] (all-more w h) n = elim n [ ]
 named-each first (q ∷ second) all-none n = elim n [ ]

@@ -96,11 +96,6 @@ pub all-joined : {A : Type 0} {P : A → Type 0} {l m : List A} → All P l → 
 all-joined all-none k = k
 all-joined (all-more p h) k = all-more p (all-joined h k)
 
--- a test or nothing
-pub or-false : (b : Bool) → (b || false) ≡ b
-or-false true = refl
-or-false false = refl
-
 -- a refusal's number and offset, 0 where there is none
 unfoldable pub number-of : Option Refusal → ℕ
 number-of none = 0

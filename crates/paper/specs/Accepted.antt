@@ -18,9 +18,9 @@ pub data All {A : Type 0} (P : A → Type 0) : List A → Type 0 where
   all-none : All P []
   all-more : {a : A} {rest : List A} → P a → All P rest → All P (a ∷ rest)
 
-pub data Each {A B : Type 0} (R : A → B → Type 0) : List A → List B → Type 0 where
-  each-none : Each R [] []
-  each-more : {a : A} {b : B} {l : List A} {m : List B} → R a b → Each R l m → Each R (a ∷ l) (b ∷ m)
+pub data EachWith {A B : Type 0} (R : A → B → Type 0) : List A → List B → Type 0 where
+  each-none : EachWith R [] []
+  each-more : {a : A} {b : B} {l : List A} {m : List B} → R a b → EachWith R l m → EachWith R (a ∷ l) (b ∷ m)
 
 pub data Distinct {A : Type 0} : List A → Type 0 where
   distinct-none : Distinct []
@@ -73,7 +73,7 @@ UsageKept root = All Used (payments root)
 -- Block ids: each block has one, and no two are alike, byte for byte.
 pub record IdsApart (root : Element) : Type 0 where
   pub ids : List (List ℕ)
-  pub has-its-own : Each (λ b id. Says (λ w. w) (block-id b) id) (blocks root) ids
+  pub has-its-own : EachWith (λ b id. Says (λ w. w) (block-id b) id) (blocks root) ids
   pub distinct : Distinct ids
 
 -- The exact sum in cents of the instructed amounts of some payments' elements: each has its amount, and these are added.

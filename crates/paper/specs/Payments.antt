@@ -35,9 +35,9 @@ unfoldable pub follow : List ℕ → Element → Option Element
 follow [] t = some t
 follow (k ∷ ks) t = elim (child k t) [ none ↦ none | some u ↦ follow ks u ]
 
--- the blocks of a message, and a leaf of its header
+-- the blocks of a message (row 2 has them), and a leaf of its header
 unfoldable pub blocks : Element → List Element
-blocks root = elim (child 2 root) [ none ↦ [] | some order ↦ all-of 10 order ]
+blocks root = elim (child 2 root) [ none ↦ [] | some initiation ↦ all-of 10 initiation ]
 
 unfoldable pub of-header : ℕ → Element → Option Element
 of-header k root = follow (2 ∷ 3 ∷ k ∷ []) root
@@ -93,7 +93,7 @@ in-block route p = follow route (p .block)
 unfoldable pub inherited : List ℕ → Payment → Option Element
 inherited route p = either-of (in-payment route p) (in-block route p)
 
--- The instructed amount of a payment's element, in cents, and those of several together. (In an accepted message each payment has one: `Accepted` says so.)
+-- The instructed amount of a payment's element, in cents, and those of several together. (An absent one would count 0; `Accepted` asks that it is there.)
 unfoldable pub amount-of : Element → ℕ
 amount-of t = elim (instructed-amount t) [ none ↦ 0 | some u ↦ cents (text-of u) ]
 

@@ -194,8 +194,7 @@ usage (p ∷ ps) = usage-of p or-else usage ps
 unfoldable pub usage-refusal : Element → Option Refusal
 usage-refusal root = usage (payments root)
 
--- From here on leaves are asked that must stand there, since 3 and 4 refused nothing. Were one absent, it would be refused at 0: nothing passes for being
--- absent.
+-- From here on leaves are asked that stand there, since 3 and 4 refused nothing. An absent id, count or sum would be refused at 0.
 -- 11: a block id equal, byte for byte, to an earlier block's.
 unfoldable pub among-texts : List ℕ → List (List ℕ) → Bool
 among-texts w [] = false
@@ -221,9 +220,9 @@ unfoldable pub total-refusal : Element → Option Refusal
 total-refusal root = if ltb (total root) (2 ^ 64) then none else refuse 21 7 (at-of (header-sum root))
 
 -- 12 and 13: one walk: header count, header sum, then each block's count and sum. Header numbers cover the whole message.
-unfoldable pub unless : (List ℕ → Bool) → (number row : ℕ) → Option Element → Option Refusal
-unless right number row none = refuse number row 0
-unless right number row (some t) = if right (text-of t) then none else refuse number row (head-of t .at)
+unfoldable pub unless : (List ℕ → Bool) → (refusal row : ℕ) → Option Element → Option Refusal
+unless right refusal row none = refuse refusal row 0
+unless right refusal row (some t) = if right (text-of t) then none else refuse refusal row (head-of t .at)
 
 unfoldable pub block-counts : List Element → Option Refusal
 block-counts [] = none

@@ -12,7 +12,7 @@ use Rattle.paper.specs.Rows.{Row}
 use Rattle.paper.specs.Values.{among}
 use Rattle.paper.specs.Payments.{Payment, payments}
 use Rattle.paper.specs.Refusals.{Refusal, Outcome, refused-as, accepted-with, outcome-alone}
-use Rattle.paper.specs.Accepted.{Accepted, All, Each, Distinct}
+use Rattle.paper.specs.Accepted.{Accepted, All, EachWith, Distinct}
 use Rattle.paper.specs.Table.{Part, part-of}
 use Rattle.paper.specs.Fields.{Value, same-value, values-of, differ-from, field-part}
 
@@ -115,7 +115,7 @@ pub record Regroups (profile : List Row) (first second file : List ℕ) : Type 0
   pub well-formed : file ≡ file-of ordinals
   pub every-payment : (k : ℕ) → k < length (payments (first-accepted .root)) → List·Memᴰ k ordinals
   pub once : Distinct ordinals
-  pub paired : Each (Names (payments (first-accepted .root))) ordinals (payments (second-accepted .root))
+  pub paired : EachWith (Names (payments (first-accepted .root))) ordinals (payments (second-accepted .root))
 
 -- An acceptable list, of bytes; and that every payment, taken as those seventeen fields, stands equally often in both.
 pub record AcceptableList (profile : List Row) (first second : List ℕ) : Type 0 where

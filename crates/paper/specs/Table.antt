@@ -9,7 +9,7 @@ use Rattle.paper.specs.Bytes.{each}
 use Rattle.paper.specs.Form.{Element}
 use Rattle.paper.specs.Rows.{head-of}
 use Rattle.paper.specs.Payments.{Payment, payments, in-payment, in-block, inherited, amount-of}
-use Rattle.paper.specs.Accepted.{Each, There}
+use Rattle.paper.specs.Accepted.{EachWith, There}
 use Rattle.paper.specs.Refusals.{Outcome, refused-as, accepted-with}
 
 -- A part of the message: its start and its length. The part that an element holds; of one that is absent 0, 0.
@@ -39,7 +39,7 @@ unfoldable pub must-be-there : List Bool
 must-be-there = true ∷ true ∷ true ∷ false ∷ true ∷ true ∷ []
 
 unfoldable pub PairsThere : Payment → Type 0
-PairsThere p = Each (λ must o. must ≡ true → There o) must-be-there (pairs p)
+PairsThere p = EachWith (λ must o. must ≡ true → There o) must-be-there (pairs p)
 
 unfoldable pub numbers-of : Payment → List ℕ
 numbers-of p =

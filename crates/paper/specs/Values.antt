@@ -132,8 +132,8 @@ iban w =
     shaped "AA00" (take 4 w) && lies-from 2 98 (number (part 2 2 w)) && every capital-or-digit (drop 4 w) && of-a-country countries w &&
     eqb (read-after 0 (moved w) % 97) 1
 
--- The row of a leaf decides its rule; the row above it where it matters: row 19 is `SEPA`, and under row 53 `SCOR`. Row 42 has its currency. Any other row
--- is free.
+-- The row of a leaf decides its rule; the row above it where it matters: row 19 is `SEPA`, and under row 53 `SCOR`. Row 42 has its currency. Names, free text,
+-- issuers and references are free. (No other row is a leaf.)
 unfoldable pub right-for : (parent row : ℕ) (currency text : List ℕ) → Bool
 right-for parent row currency w =
     if among row (4 ∷ 11 ∷ 39 ∷ 40 ∷ []) then id w else
@@ -150,7 +150,7 @@ right-for parent row currency w =
     if among row (7 ∷ 15 ∷ []) then money w else
     if eqb row 42 then amount w && same currency (bytes "EUR") else
     if eqb row 31 then bic w else
-    if eqb row 28 then iban w else true
+    if eqb row 28 then iban w else among row (9 ∷ 25 ∷ 35 ∷ 49 ∷ 54 ∷ 55 ∷ [])
 
 -- Text of spaces alone is allowed nowhere.
 unfoldable pub spaces-alone : List ℕ → Bool

@@ -1,8 +1,9 @@
 // What a value may be: refusals 6, 7 and 8 for one leaf.
 ghost use mathlib.Core.Path.{_≡_};
 ghost use mathlib.Core.Bool.{_&&_};
+ghost use mathlib.Core.List.{[], _∷_};
 ghost use Rattle.paper.specs.Bytes.{if_then_else_, bytes, same};
-ghost use Rattle.paper.specs.Values.{right-for, amount};
+ghost use Rattle.paper.specs.Values.{among, right-for, amount};
 ghost use Rattle.values.specs.Judgements.{Judges};
 ghost use lib.Dec.{eqb};
 
@@ -34,7 +35,29 @@ fn amount_in(currency: &[u8], s: &[u8]) -> bool
     texts::same(currency, b"EUR")
 }
 
-// The rule of the leaf's row. Any row that is not named is free.
+// Rows without a rule of their own: names, free text, issuers, references.
+fn is_free(row: usize) -> bool
+    ensures { λ r. ⌜ r ≡ among row (9 ∷ 25 ∷ 35 ∷ 49 ∷ 54 ∷ 55 ∷ []) ⌝ }
+{
+    if row == 9 {
+        return true;
+    }
+    if row == 25 {
+        return true;
+    }
+    if row == 35 {
+        return true;
+    }
+    if row == 49 {
+        return true;
+    }
+    if row == 54 {
+        return true;
+    }
+    row == 55
+}
+
+// The rule of the leaf's row.
 fn right_for(parent: usize, row: usize, currency: &[u8], s: &[u8]) -> bool
     ensures { λ r. ⌜ r ≡ right-for parent row (now (currency .entry)) (now (s .entry)) ⌝ }
 {
@@ -56,7 +79,7 @@ fn right_for(parent: usize, row: usize, currency: &[u8], s: &[u8]) -> bool
         42 => amount_in(currency, s),
         31 => bics::bic(s),
         28 => accounts::iban(s),
-        _ => true,
+        _ => is_free(row),
     }
 }
 

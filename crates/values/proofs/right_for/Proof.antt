@@ -1,5 +1,5 @@
 use borrow.Author.Needs.{needs}
-use mathlib.Core.Path.{sym}
+use mathlib.Core.Path.{sym, _∙_}
 use mathlib.Core.Logic.{⊎-elim, inl, inr}
 use Rattle.paper.specs.Bytes.{bytes}
 use Rattle.paper.specs.Values.{right-for, among}
@@ -79,6 +79,9 @@ bic-requires c κs = search needs
 iban-requires : tie.Need-iban-requires
 iban-requires c κs = search needs
 
+is-free-requires : tie.Need-is-free-requires
+is-free-requires c κs = search needs
+
 returns : tie.Need-returns
 unfolding right-for among
 returns c = ⊎-elim (λ e. rw e (c .id .ensures)) (λ e. rw e (c .id .ensures)) (c .before .match .keys1)
@@ -148,7 +151,7 @@ unfolding right-for among
 returns-17 c = rw (c .before .match .keys17) (c .iban .ensures)
 
 returns-18 : tie.Need-returns-18
-returns-18 c = sym (free _ _ _ _ (λ e. c .match .rest .0 .0 .0 .0 .0 .0 .0 .0 .0 .0 .0 .0 .0 .0 .0 .0 .1 (inl e)) (λ e. c .match .rest .0 .0 .0 .0 .0 .0 .0 .0 .0 .0 .0 .0 .0 .0 .0 .0 .1 (inr e)) (c .match .rest .0 .0 .0 .0 .0 .0 .0 .0 .0 .0 .0 .0 .0 .0 .0 .1) (c .match .rest .0 .0 .0 .0 .0 .0 .0 .0 .0 .0 .0 .0 .0 .0 .1) (c .match .rest .0 .0 .0 .0 .0 .0 .0 .0 .0 .0 .0 .0 .0 .1) (c .match .rest .0 .0 .0 .0 .0 .0 .0 .0 .0 .0 .0 .0 .1) (c .match .rest .0 .0 .0 .0 .0 .0 .0 .0 .0 .0 .0 .1) (c .match .rest .0 .0 .0 .0 .0 .0 .0 .0 .0 .0 .1) (c .match .rest .0 .0 .0 .0 .0 .0 .0 .0 .0 .1) (c .match .rest .0 .0 .0 .0 .0 .0 .0 .0 .1) (c .match .rest .0 .0 .0 .0 .0 .0 .0 .1) (c .match .rest .0 .0 .0 .0 .0 .0 .1) (c .match .rest .0 .0 .0 .0 .0 .1) (λ e. c .match .rest .0 .0 .0 .0 .1 (inl e)) (λ e. c .match .rest .0 .0 .0 .0 .1 (inr e)) (λ e. c .match .rest .0 .0 .0 .1 (inl e)) (λ e. c .match .rest .0 .0 .0 .1 (inr e)) (c .match .rest .0 .0 .1) (c .match .rest .0 .1) (c .match .rest .1))
+returns-18 c = c .is-free .ensures ∙ sym (free _ _ _ _ (λ e. c .before .match .rest .0 .0 .0 .0 .0 .0 .0 .0 .0 .0 .0 .0 .0 .0 .0 .0 .1 (inl e)) (λ e. c .before .match .rest .0 .0 .0 .0 .0 .0 .0 .0 .0 .0 .0 .0 .0 .0 .0 .0 .1 (inr e)) (c .before .match .rest .0 .0 .0 .0 .0 .0 .0 .0 .0 .0 .0 .0 .0 .0 .0 .1) (c .before .match .rest .0 .0 .0 .0 .0 .0 .0 .0 .0 .0 .0 .0 .0 .0 .1) (c .before .match .rest .0 .0 .0 .0 .0 .0 .0 .0 .0 .0 .0 .0 .0 .1) (c .before .match .rest .0 .0 .0 .0 .0 .0 .0 .0 .0 .0 .0 .0 .1) (c .before .match .rest .0 .0 .0 .0 .0 .0 .0 .0 .0 .0 .0 .1) (c .before .match .rest .0 .0 .0 .0 .0 .0 .0 .0 .0 .0 .1) (c .before .match .rest .0 .0 .0 .0 .0 .0 .0 .0 .0 .1) (c .before .match .rest .0 .0 .0 .0 .0 .0 .0 .0 .1) (c .before .match .rest .0 .0 .0 .0 .0 .0 .0 .1) (c .before .match .rest .0 .0 .0 .0 .0 .0 .1) (c .before .match .rest .0 .0 .0 .0 .0 .1) (λ e. c .before .match .rest .0 .0 .0 .0 .1 (inl e)) (λ e. c .before .match .rest .0 .0 .0 .0 .1 (inr e)) (λ e. c .before .match .rest .0 .0 .0 .1 (inl e)) (λ e. c .before .match .rest .0 .0 .0 .1 (inr e)) (c .before .match .rest .0 .0 .1) (c .before .match .rest .0 .1) (c .before .match .rest .1))
 
 pub right-for-spec : {M : Type 1} → statement M
 right-for-spec =
@@ -178,6 +181,7 @@ right-for-spec =
     amount-in-requires
     bic-requires
     iban-requires
+    is-free-requires
     returns
     returns-2
     returns-3
