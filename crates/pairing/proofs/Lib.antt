@@ -2,3 +2,4 @@ pub mod Counting
 pub mod Pairing
 pub mod Regroups
 pub mod Six
+pub mod Order

@@ -88,7 +88,7 @@ same-payment-tests [] = refl
 same-payment-tests (v ∷ vs) = both (same-value-tests v) (same-payment-tests vs)
 
 -- no field differs exactly where the payments are equal
-no-difference : (n : ℕ) (v w : List Value) → differ-from n v w ≡ none → v ≡ w
+pub no-difference : (n : ℕ) (v w : List Value) → differ-from n v w ≡ none → v ≡ w
 unfolding differ-from
 no-difference n [] [] e = refl
 no-difference n [] (w ∷ ws) e = some-not-none e
@@ -102,12 +102,12 @@ no-difference n (v ∷ vs) (w ∷ ws) e = go (same-value v w) refl e (λ f. no-d
         cons p q = cc
     go false s f below = some-not-none f
 
-equal-no-difference : (n : ℕ) (v : List Value) → differ-from n v v ≡ none
+pub equal-no-difference : (n : ℕ) (v : List Value) → differ-from n v v ≡ none
 unfolding differ-from
 equal-no-difference n [] = refl
 equal-no-difference n (v ∷ vs) = rw (same-value-tests v) (equal-no-difference (suc n) vs)
 
-among-member : {n : ℕ} {ks : List ℕ} → List·Memᴰ n ks → among n ks ≡ true
+pub among-member : {n : ℕ} {ks : List ℕ} → List·Memᴰ n ks → among n ks ≡ true
 unfolding among
 among-member {n} (List·Memᴰ·head {x = k} e) = rw (eq-eqb n k e)
 among-member {n} (List·Memᴰ·tail {x = k} m) = go (eqb n k) (among-member m)
@@ -116,7 +116,7 @@ among-member {n} (List·Memᴰ·tail {x = k} m) = go (eqb n k) (among-member m)
     go true e = refl
     go false e = e
 
-among-not : (n : ℕ) (ks : List ℕ) → (List·Memᴰ n ks → ⊥) → among n ks ≡ false
+pub among-not : (n : ℕ) (ks : List ℕ) → (List·Memᴰ n ks → ⊥) → among n ks ≡ false
 among-not n ks m = go (among n ks) refl
   where
     go : (t : Bool) → among n ks ≡ t → t ≡ false
@@ -167,7 +167,7 @@ module _ (first : List (List Value)) where
           let h = ltb-true o (length first) a in
           one-pair o os named p ps h (λ m. false-not-true (sym b ∙ among-member m)) (no-difference 1 (getD first o []) p c) (below f)
 
-  rest-of : {o : ℕ} {os named : List ℕ} {p : List Value} {ps : List (List Value)} → Rest first named (o ∷ os) (p ∷ ps)
+  pub rest-of : {o : ℕ} {os named : List ℕ} {p : List Value} {ps : List (List Value)} → Rest first named (o ∷ os) (p ∷ ps)
       → (o < length first) × (List·Memᴰ o named → ⊥) × (getD first o [] ≡ p) × Rest first (o ∷ named) os ps
   rest-of {o} {os} {named} {p} {ps} r = go (r .within) (r .once) (r .not-before) (r .names)
     where

@@ -32,29 +32,29 @@ NamedAs first os second = counting.Names same-payment same-payment-says same-pay
 abbrev PairedAs : (first : List (List Value)) (os : List ℕ) (second : List (List Value)) → Type 0
 PairedAs first os second = Pairs same-payment same-payment-says same-payment-tests [] first os second
 
-as-many-values : (root : Element) → length (all-values root) ≡ length (payments root)
+pub as-many-values : (root : Element) → length (all-values root) ≡ length (payments root)
 unfolding all-values
 as-many-values root = length-map (payments root) values-of
 
 -- an ordinal names a payment exactly where it is within and the payment there has the same values
-at-within : {A : Type 0} {l : List A} {o : ℕ} {a : A} → At l o a → o < length l
+pub at-within : {A : Type 0} {l : List A} {o : ℕ} {a : A} → At l o a → o < length l
 at-within at-first = omega arith
 at-within (at-later h) = let k = at-within h in omega arith
 
-at-values : {l : List Payment} {o : ℕ} {p : Payment} → At l o p → getD (map values-of l) o [] ≡ values-of p
+pub at-values : {l : List Payment} {o : ℕ} {p : Payment} → At l o p → getD (map values-of l) o [] ≡ values-of p
 at-values at-first = refl
 at-values (at-later h) = at-values h
 
-values-at : (l : List Payment) (o : ℕ) → o < length l → (p : Payment) × At l o p
+pub values-at : (l : List Payment) (o : ℕ) → o < length l → (p : Payment) × At l o p
 values-at [] o h = absurd (omega arith)
 values-at (p ∷ l) zero h = (p, at-first)
 values-at (p ∷ l) (suc o) h = let r = values-at l o (omega arith) in (r .0, at-later (r .1))
 
-each-named : (first : List Payment) {os : List ℕ} {second : List Payment} → EachWith (Names first) os second → NamedAs (map values-of first) os (map values-of second)
+pub each-named : (first : List Payment) {os : List ℕ} {second : List Payment} → EachWith (Names first) os second → NamedAs (map values-of first) os (map values-of second)
 each-named first each-none = names-none
 each-named first (each-more n h) = names-more (at-values (n .is-named) ∙ n .equal) (each-named first h)
 
-each-within : (first : List Payment) {os : List ℕ} {second : List Payment} → EachWith (Names first) os second → All (λ o. o < length first) os
+pub each-within : (first : List Payment) {os : List ℕ} {second : List Payment} → EachWith (Names first) os second → All (λ o. o < length first) os
 each-within first each-none = all-none
 each-within first (each-more n h) = all-more (at-within (n .is-named)) (each-within first h)
 
