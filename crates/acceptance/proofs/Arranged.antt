@@ -246,3 +246,6 @@ must-be-there k e (not-there a) = must-be-there k e a
 must-be-there k e (the-last {k = j} a) = must-or (eqb k j) refl e (λ f. must-be-there k f a)
 must-be-there k e (one-before a) = List·Memᴰ·tail (must-be-there k e a)
 must-be-there k e (chosen m a) = List·Memᴰ·tail (must-be-there k e a)
+
+pub one-chosen : {choice : List ℕ} {ps : List Place} {ks : List ℕ} → Arranged (either choice ∷ ps) ks → (k : ℕ) × List·Memᴰ k choice × List·Memᴰ k ks
+one-chosen (chosen {k} m a) = (k, m, List·Memᴰ·head refl)

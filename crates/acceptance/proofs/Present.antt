@@ -1,17 +1,18 @@
 -- What stands in a message whose root conforms to the rows: its blocks and payments, the leaves that must be there, and the pairs of the table.
 use Prim.Native.Nat.{ℕ, suc}
-use mathlib.Core.List.{List, [], _∷_, map}
+use mathlib.Core.List.{List, [], _∷_, _++_, map, List·Memᴰ, List·Memᴰ·cases-cons, List·Memᴰ·eq-of-singleton}
 use mathlib.Core.Bool.{true}
 use mathlib.Core.Option.{Option, none, some}
-use mathlib.Core.Path.{_≡_, refl, sym}
-use mathlib.Core.Logic.{⊎-elim, _⊎_}
+use mathlib.Core.Path.{_≡_, refl, sym, ap, _∙_, subst}
+use mathlib.Core.Logic.{⊎-elim, _⊎_, inl, inr}
 use Rattle.paper.specs.Form.{Head, Element}
 use Rattle.paper.specs.Rows.{Row, row-of, Conforms}
 use Rattle.paper.specs.Payments.{Payment, all-of, child, follow, blocks, of-header, header-count, header-sum, block-id, block-count, block-sum, payments, payments-of, payments-from, in-payment, in-block, either-of, inherited}
+use Rattle.paper.specs.Fields.{plain, or-means, amount-field, remittance, fields, never-absent, FieldsThere}
 use Rattle.paper.specs.Table.{pairs, must-be-there, PairsThere}
 use Rattle.paper.specs.Accepted.{All, all-none, all-more, each-none, each-more, There, AnyText, RowsKept, Used, UsageKept, AcceptedTree, LeavesThere}
 use Rattle.paper.proofs.Laws.{false-not-true, some-not-none, both-left, both-right, all-joined, all-map}
-use Rattle.acceptance.proofs.Routes.{steps, step-all, follow-conforms, follow-there, EndsAs}
+use Rattle.acceptance.proofs.Routes.{steps, step-all, choice-there, follow-conforms, follow-there, EndsAs}
 use Rattle.acceptance.proofs.Proper.{leads, Proper}
 
 module _ (profile : List Row) (proper : Proper profile) (Right : (parent : ℕ) → Row → Head → List ℕ → Type 0) where
@@ -60,7 +61,14 @@ module _ (profile : List Row) (proper : Proper profile) (Right : (parent : ℕ) 
     unfolding payments
     payments-as = payments-as-from 0 blocks-as
 
--- A child is there where it ends a route of one row.
+-- A child is at the end of a route of one row, and back.
+pub follow-one : (k : ℕ) (t u : Element) → child k t ≡ some u → follow (k ∷ []) t ≡ some u
+unfolding follow
+follow-one k t u e = go e
+  where
+    go : {o : Option Element} → o ≡ some u → _≡_ {A = Option Element} (elim o [ none ↦ none | some v ↦ some v ]) (some u)
+    go e = rw e
+
 child-of : (k : ℕ) (t : Element) → There (follow (k ∷ []) t) → There (child k t)
 unfolding follow
 child-of k t h = go (child k t) refl (h .is-it)
@@ -110,3 +118,68 @@ pub no-other-absent : (profile : List Row) → Proper profile → (root : Elemen
 unfolding RowsKept UsageKept
 no-other-absent profile proper root a =
     both-of (pairs-there profile proper AnyText) (payments-as profile proper AnyText root (a .but-counts .rows)) (a .but-counts .usage)
+
+-- Nor is one of the fields that must be there.
+follow-joined : (route : List ℕ) (k : ℕ) (t u v : Element) → follow route t ≡ some u → child k u ≡ some v → follow (route ++ (k ∷ [])) t ≡ some v
+unfolding follow
+follow-joined [] k t u v e f = let g : t ≡ u = cc in follow-one k t v (ap (child k) g ∙ f)
+follow-joined (j ∷ route) k t u v e f = go (child j t) refl e (λ w g. follow-joined route k w u v g f)
+  where
+    go : (o : Option Element) → child j t ≡ o → _≡_ {A = Option Element} (elim o [ none ↦ none | some w ↦ follow route w ]) (some u)
+        → ((w : Element) → follow route w ≡ some u → follow (route ++ (k ∷ [])) w ≡ some v)
+        → _≡_ {A = Option Element} (elim o [ none ↦ none | some w ↦ follow (route ++ (k ∷ [])) w ]) (some v)
+    go none p q below = some-not-none (sym q)
+    go (some w) p q below = below w q
+
+module _ (profile : List Row) (proper : Proper profile) (Right : (parent : ℕ) → Row → Head → List ℕ → Type 0) where
+  agent-there : (b : Element) → As profile proper Right 2 10 b → There (either-of (follow (29 ∷ 30 ∷ 31 ∷ []) b) (follow (29 ∷ 30 ∷ 32 ∷ 33 ∷ []) b))
+  unfolding EndsAs
+  agent-there b c = go (choice-there profile Right (u .it) 29 (row-of profile 29 30) (31 ∷ 32 ∷ []) (proper .agent-or-not) conforms)
+    where
+      u : There (follow (29 ∷ 30 ∷ []) b)
+      u = stands profile proper Right 2 10 (29 ∷ 30 ∷ []) b (proper .debtor-agent) c
+
+      conforms : As profile proper Right 29 30 (u .it)
+      conforms = ends-as profile proper Right 2 10 (29 ∷ 30 ∷ []) b (u .it) (proper .debtor-agent) c (u .is-it)
+
+      bic : There (child 31 (u .it)) → There (follow (29 ∷ 30 ∷ 31 ∷ []) b)
+      bic v = record { it = v .it; is-it = follow-joined (29 ∷ 30 ∷ []) 31 b (u .it) (v .it) (u .is-it) (v .is-it) }
+
+      other : There (child 32 (u .it)) → There (follow (29 ∷ 30 ∷ 32 ∷ 33 ∷ []) b)
+      other v =
+          let d = follow-conforms profile Right (proper .apart) 29 30 (32 ∷ []) (u .it) (v .it) (proper .to-not-provided) conforms (follow-one 32 (u .it) (v .it) (v .is-it)) in
+          let w = child-of 33 (v .it) (stands profile proper Right 30 32 (33 ∷ []) (v .it) (proper .not-provided) d) in
+          record {
+            it = w .it;
+            is-it = follow-joined (29 ∷ 30 ∷ 32 ∷ []) 33 b (v .it) (w .it) (follow-joined (29 ∷ 30 ∷ []) 32 b (u .it) (v .it) (u .is-it) (v .is-it)) (w .is-it);
+          }
+
+      go : ((k : ℕ) × List·Memᴰ k (31 ∷ 32 ∷ []) × There (child k (u .it))) → There (either-of (follow (29 ∷ 30 ∷ 31 ∷ []) b) (follow (29 ∷ 30 ∷ 32 ∷ 33 ∷ []) b))
+      go (k, m, v) =
+          ⊎-elim (λ e. either-there (inl (bic (subst (λ (j : ℕ). There (child j (u .it))) e v))))
+          (λ n. either-there (inr (other (subst (λ (j : ℕ). There (child j (u .it))) (List·Memᴰ·eq-of-singleton n) v)))) (List·Memᴰ·cases-cons m)
+
+  some-fields-there : (p : Payment) → PaymentAs profile proper Right p → FieldsThere p
+  unfolding FieldsThere never-absent fields plain or-means amount-field remittance in-payment in-block inherited
+  some-fields-there p c =
+      each-more (λ e. false-not-true e)
+      (each-more (λ e. false-not-true e)
+      (each-more (λ e. false-not-true e)
+      (each-more (λ _. stands profile proper Right 2 10 (22 ∷ 23 ∷ []) (p .block) (proper .date) (c .block-as))
+      (each-more (λ _. stands profile proper Right 2 10 (24 ∷ 25 ∷ []) (p .block) (proper .debtor-name) (c .block-as))
+      (each-more (λ _. stands profile proper Right 2 10 (26 ∷ 27 ∷ 28 ∷ []) (p .block) (proper .debtor-iban) (c .block-as))
+      (each-more (λ _. agent-there (p .block) (c .block-as))
+      (each-more (λ e. false-not-true e)
+      (each-more (λ e. false-not-true e)
+      (each-more (λ _. stands profile proper Right 10 37 (38 ∷ 40 ∷ []) (p .own) (proper .end-to-end-id) (c .own-as))
+      (each-more (λ _. stands profile proper Right 10 37 (41 ∷ 42 ∷ []) (p .own) (proper .amount) (c .own-as))
+      (each-more (λ e. false-not-true e)
+      (each-more (λ _. stands profile proper Right 10 37 (44 ∷ 25 ∷ []) (p .own) (proper .creditor-name) (c .own-as))
+      (each-more (λ _. stands profile proper Right 10 37 (45 ∷ 27 ∷ 28 ∷ []) (p .own) (proper .creditor-iban) (c .own-as))
+      (each-more (λ e. false-not-true e)
+      (each-more (λ e. false-not-true e)
+      (each-more (λ e. false-not-true e) each-none))))))))))))))))
+
+pub fields-there : (profile : List Row) → Proper profile → (root : Element) → RowsKept profile root → All FieldsThere (payments root)
+unfolding RowsKept
+fields-there profile proper root kept = all-map (some-fields-there profile proper AnyText) (payments-as profile proper AnyText root kept)

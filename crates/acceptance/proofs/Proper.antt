@@ -5,7 +5,7 @@ use mathlib.Core.List.{List, [], _∷_}
 use mathlib.Core.Bool.{Bool, true, _&&_}
 use mathlib.Core.Path.{_≡_, refl}
 use Rattle.paper.specs.Bytes.{bytes}
-use Rattle.paper.specs.Rows.{Row, leaf, group, group-under, rows, row-of}
+use Rattle.paper.specs.Rows.{either, elements, Row, leaf, group, group-under, rows, row-of}
 use Rattle.paper.specs.Values.{among}
 use Rattle.paper.specs.Refusals.{rows-at}
 use Rattle.acceptance.proofs.Arranged.{rows-of, must}
@@ -29,7 +29,13 @@ pub record Proper (profile : List Row) : Type 0 where
   pub block-id : leads profile 2 10 (11 ∷ []) ≡ true
   pub block-count : leads profile 2 10 (14 ∷ []) ≡ true
   pub block-sum : leads profile 2 10 (15 ∷ []) ≡ true
+  pub date : leads profile 2 10 (22 ∷ 23 ∷ []) ≡ true
+  pub debtor-name : leads profile 2 10 (24 ∷ 25 ∷ []) ≡ true
   pub debtor-iban : leads profile 2 10 (26 ∷ 27 ∷ 28 ∷ []) ≡ true
+  pub debtor-agent : leads profile 2 10 (29 ∷ 30 ∷ []) ≡ true
+  pub agent-or-not : row-of profile 29 30 .holds ≡ elements (either (31 ∷ 32 ∷ []) ∷ [])
+  pub to-not-provided : steps profile 29 30 (32 ∷ []) ≡ true
+  pub not-provided : leads profile 30 32 (33 ∷ []) ≡ true
   pub end-to-end-id : leads profile 10 37 (38 ∷ 40 ∷ []) ≡ true
   pub amount : leads profile 10 37 (41 ∷ 42 ∷ []) ≡ true
   pub creditor-name : leads profile 10 37 (44 ∷ 25 ∷ []) ≡ true
@@ -48,7 +54,13 @@ rows-proper =
       block-id = refl;
       block-count = refl;
       block-sum = refl;
+      date = refl;
+      debtor-name = refl;
       debtor-iban = refl;
+      debtor-agent = refl;
+      agent-or-not = refl;
+      to-not-provided = refl;
+      not-provided = refl;
       end-to-end-id = refl;
       amount = refl;
       creditor-name = refl;

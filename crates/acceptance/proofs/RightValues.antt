@@ -2,7 +2,7 @@
 use Prim.Native.Nat.{ℕ}
 use mathlib.Core.List.{List, [], _∷_}
 use mathlib.Core.Bool.{true}
-use mathlib.Core.Option.{Option, none, some}
+use mathlib.Core.Option.{none, some}
 use mathlib.Core.Path.{_≡_}
 use Rattle.paper.specs.Form.{Element}
 use Rattle.paper.specs.Rows.{Row, row-of, text, head-of}
@@ -11,15 +11,8 @@ use Rattle.paper.specs.Refusals.{values-refusal}
 use Rattle.paper.specs.Accepted.{All, RightText, ValuesRight}
 use Rattle.acceptance.proofs.Routes.{leaf-conforms, EndsAs}
 use Rattle.acceptance.proofs.Proper.{leads, Proper}
-use Rattle.acceptance.proofs.Present.{As, ends-as, PaymentAs, blocks-as, payments-as}
+use Rattle.acceptance.proofs.Present.{As, follow-one, ends-as, PaymentAs, blocks-as, payments-as}
 use Rattle.acceptance.proofs.Stages.{values-right}
-
-follow-one : (k : ℕ) (t u : Element) → child k t ≡ some u → follow (k ∷ []) t ≡ some u
-unfolding follow
-follow-one k t u e = go e
-  where
-    go : {o : Option Element} → o ≡ some u → _≡_ {A = Option Element} (elim o [ none ↦ none | some v ↦ some v ]) (some u)
-    go e = rw e
 
 module _ (profile : List Row) (proper : Proper profile) where
   abbrev pub RightAs : (parent k : ℕ) → Element → Type 0

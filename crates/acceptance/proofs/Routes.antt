@@ -10,13 +10,13 @@ use borrow.Author.Tests.{eqb-true}
 use lib.Dec.{eqb}
 use Rattle.paper.specs.Bytes.{if_then_else_, white, same, Every}
 use Rattle.paper.specs.Form.{Head, Element, Elements, holding-text, holding-elements, []ᵉ, _∷ᵉ_}
-use Rattle.paper.specs.Rows.{Place, Contents, text, elements, Row, name, row-of, head-of, Arranged, end, exactly-one, there, not-there, the-last, one-before, chosen, Conforms, Conform}
+use Rattle.paper.specs.Rows.{Place, either, Contents, text, elements, Row, name, row-of, head-of, Arranged, end, exactly-one, there, not-there, the-last, one-before, chosen, Conforms, Conform}
 use Rattle.paper.specs.Values.{among}
 use Rattle.paper.specs.Payments.{listed, children, all-named, all-of, child, follow, text-of}
 use Rattle.paper.specs.Refusals.{rows-at}
 use Rattle.paper.specs.Accepted.{All, all-none, all-more, There}
 use Rattle.paper.proofs.Laws.{some-not-none, both-left, both-right, same-says, same-tests, all-member, all-map, among-says}
-use Rattle.acceptance.proofs.Arranged.{rows-of, Apart, apart-none, apart-more, must, must-be-there}
+use Rattle.acceptance.proofs.Arranged.{rows-of, Apart, apart-none, apart-more, must, must-be-there, one-chosen}
 use Rattle.acceptance.proofs.Rows.{RowsApart}
 
 -- the rows of arranged children are rows of the places
@@ -132,6 +132,29 @@ module _ (profile : List Row) (Right : (parent : ℕ) → Row → Head → List 
           → There (elim (all-named k (listed ts)) as (λ _. Option Element) [ [] ↦ none | v ∷ vs ↦ some v ])
       go (text longest) e c = absurd c
       go (elements places) e c = some-first (all-named k (listed ts)) (named-there ts (r .row) k (c .0) (must-be-there k e (c .1)) (c .2) .1)
+
+  -- of a choice, one
+  pub choice-there : (t : Element) (parent : ℕ) (r : Row) (choice : List ℕ) → r .holds ≡ elements (either choice ∷ []) → Conforms profile Right t parent r
+      → (k : ℕ) × List·Memᴰ k choice × There (child k t)
+  unfolding child all-of children Conforms
+  choice-there (holding-text h w) parent r choice e c = absurd (go (r .holds) e c)
+    where
+      go : (holds : Contents) → holds ≡ elements (either choice ∷ [])
+          → (elim holds as (λ _. Type 0) [ text longest ↦ Right parent r h w | elements places ↦ Every white w × Arranged places [] ]) → ⊥
+      go (text longest) e c = let z : _≡_ {A = ℕ} 0 1 = cc in omega (arith, z)
+      go (elements places) e c =
+          let p : places ≡ either choice ∷ [] = cc in
+          List·Memᴰ·not-nil (one-chosen (subst (λ (ps : List Place). Arranged ps []) p (c .1)) .2)
+  choice-there (holding-elements h ts) parent r choice e c = go (r .holds) e c
+    where
+      go : (holds : Contents) → holds ≡ elements (either choice ∷ [])
+          → (elim holds as (λ _. Type 0) [ text longest ↦ ⊥ | elements places ↦ (ks : List ℕ) × Arranged places ks × Conform profile Right ts (r .row) ks ])
+          → (k : ℕ) × List·Memᴰ k choice × There (elim (all-named k (listed ts)) as (λ _. Option Element) [ [] ↦ none | v ∷ vs ↦ some v ])
+      go (text longest) e c = absurd c
+      go (elements places) e c =
+          let p : places ≡ either choice ∷ [] = cc in
+          let n = one-chosen (subst (λ (ps : List Place). Arranged ps (c .0)) p (c .1)) in
+          (n .0, n .1, some-first (all-named (n .0) (listed ts)) (named-there ts (r .row) (n .0) (c .0) (n .2) (c .2) .1))
 
   -- a leaf that conforms holds text that is right for it
   pub leaf-conforms : (t : Element) (parent : ℕ) (r : Row) (longest : ℕ) → r .holds ≡ text longest → Conforms profile Right t parent r

@@ -321,10 +321,10 @@ module _ (profile : List Row) (proper : Proper profile) (first second file : Lis
   unfolding regrouping of-outcomes
   refused-second a e = rw (outcome-of profile proper first a, e)
 
-  fifteen : (a : Accepted profile first) (b : Accepted profile second) → (length (payments (a .root)) ≡ length (payments (b .root)) → ⊥)
+  numbers-do-differ : (a : Accepted profile first) (b : Accepted profile second) → (length (payments (a .root)) ≡ length (payments (b .root)) → ⊥)
       → regrouping profile first second file ≡ answered 15 0 0
   unfolding of-payments
-  fifteen a b n =
+  numbers-do-differ a b n =
       both-accepted a b ∙
       rw (ne-eqb (length (map values-of (payments (a .root)))) (length (map values-of (payments (b .root))))
       (λ l. n (sym (length-map (payments (a .root)) values-of) ∙ l ∙ length-map (payments (b .root)) values-of)))
@@ -336,9 +336,9 @@ module _ (profile : List Row) (proper : Proper profile) (first second file : Lis
       go none e = refl
       go (some os) e = absurd (n os (back-ordinals file os bytes e))
 
-  seventeen-of : (c : Comparable profile first second file) (os : List ℕ) → file ≡ file-of os → (length os ≡ length (ones c) → ⊥)
+  is-another-count : (c : Comparable profile first second file) (os : List ℕ) → file ≡ file-of os → (length os ≡ length (ones c) → ⊥)
       → regrouping profile first second file ≡ answered 17 0 0
-  seventeen-of c os f n =
+  is-another-count c os f n =
       of-file c (some os) (ap ordinals-of f ∙ ordinals-back os) ∙
       rw (ne-eqb (length os) (length (map values-of (ones c))) (λ l. n (l ∙ length-map (ones c) values-of)))
 
@@ -401,9 +401,9 @@ module _ (profile : List Row) (proper : Proper profile) (first second file : Lis
       there : {a : RegroupingAnswer} → AnswerIs profile first second file a → a ≡ regrouping profile first second file
       there (first-refused e) = sym (refused-first e)
       there (second-refused a e) = sym (refused-second a e)
-      there (numbers-differ a b n) = sym (fifteen a b n)
+      there (numbers-differ a b n) = sym (numbers-do-differ a b n)
       there (not-of-that-form c n) = sym (of-file c none (no-ordinals bytes n))
-      there (another-count c os f n) = sym (seventeen-of c os f n)
+      there (another-count c os f n) = sym (is-another-count c os f n)
       there (too-large u l) = sym (is-too-large u l)
       there (named-before u l m) = sym (is-named-before u l m)
       there (fields-differ u n one at d) = sym (differs-at u n one at d)

@@ -14,13 +14,14 @@ use Rattle.paper.specs.Refusals.{Outcome, refused-as, accepted-with, MessageAns
 use Rattle.paper.specs.Accepted.{All, Accepted}
 use Rattle.paper.specs.Order.{Stage, order, numbers, Holds, FirstNot}
 use Rattle.paper.specs.Table.{over, written, table-after, PairsThere}
+use Rattle.paper.specs.Fields.{FieldsThere}
 use Rattle.paper.specs.Answers.{verdict-says, refusal-of, numbered}
 use Rattle.paper.specs.declared.Fault.{Fault}
 use Rattle.paper.specs.declared.Fault.the-variants.{NotOfTheForm}
 use Rattle.paper.specs.declared.Verdict.{Verdict}
 use Rattle.paper.specs.declared.Verdict.the-variants as the
 use Rattle.acceptance.proofs.Proper.{rows-proper}
-use Rattle.acceptance.proofs.Present.{no-other-absent}
+use Rattle.acceptance.proofs.Present.{no-other-absent, fields-there}
 use Rattle.acceptance.proofs.Outcome.{accepted-alone, accepted-with-table}
 use Rattle.acceptance.proofs.Accepts.{accepts-with-table}
 use Rattle.acceptance.proofs.Order as the-order
@@ -86,7 +87,8 @@ refused-keeps {s} {before} {after} {f} a = go (outcome rows (length before) s) (
     go (refused-as r) e t = t
     go (accepted-with root) e t = absurd (eqb-false (refusal-of f .number) 0 (no-zero f) (ap (λ (m : MessageAnswer). m .number) e))
 
--- On acceptance the answer holds blocks, payments and total cents, and the table each payment, of which no pair but the ultimate debtor's is absent.
+-- On acceptance the answer holds blocks, payments and total cents, and the table each payment, of which no pair but the ultimate debtor's is absent; nor is one of the fields
+-- that must be there.
 pub record Filled (s before after : List ℕ) (b p c : ℕ) : Type 0 where
   pub root : Element
   pub outcome-is : outcome rows (length before) s ≡ accepted-with root
@@ -95,6 +97,7 @@ pub record Filled (s before after : List ℕ) (b p c : ℕ) : Type 0 where
   pub cents-are : c ≡ total root
   pub table-is : after ≡ table-after (accepted-with root) before
   pub pairs : All PairsThere (payments root)
+  pub fields : All FieldsThere (payments root)
 
 pub accepted-fills : {s before after : List ℕ} {b p c : ℕ} → VerdictPromise s before (the.Accepted b p c) after → Filled s before after b p c
 unfolding verdict verdict-says answer-to accepted
@@ -111,4 +114,5 @@ accepted-fills {s} {before} {after} {b} {p} {c} a =
       cents-are = ap (λ (m : MessageAnswer). m .cents) e;
       table-is = a .table-is ∙ ap (λ (o : Outcome). table-after o before) (r .1);
       pairs = no-other-absent rows rows-proper (r .0) (accepted-alone rows rows-proper s (r .0) .0 (t .1) .2);
+      fields = fields-there rows rows-proper (r .0) (accepted-alone rows rows-proper s (r .0) .0 (t .1) .2 .but-counts .rows);
     }

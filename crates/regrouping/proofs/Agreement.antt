@@ -5,14 +5,17 @@ use mathlib.Core.Path.{_≡_, sym, ap, _∙_}
 use mathlib.Core.Logic.{_↔_}
 use denote.Ref.{RefT, now}
 use Rattle.paper.specs.Rows.{rows}
-use Rattle.paper.specs.Accepted.{All}
-use Rattle.paper.specs.Regrouping.{Regroups}
+use Rattle.paper.specs.Accepted.{All, Accepted}
+use Rattle.paper.specs.Regrouping.{RegroupingAnswer, Regroups, AcceptableList, EquallyOften}
+use Rattle.paper.specs.Order.{AnswerIs}
 use Rattle.paper.specs.Answers.{regrouping-says}
 use Rattle.paper.specs.declared.Regrouping.{Regrouping}
 use Rattle.paper.specs.declared.Regrouping.the-variants as the
 use Rattle.acceptance.proofs.Proper.{rows-proper}
 use Rattle.answers.proofs.Agreement.{one-regrouping}
 use Rattle.pairing.proofs.Regroups.{regroups-exactly}
+use Rattle.pairing.proofs.Regroups as regroups
+use Rattle.pairing.proofs.Order as in-order
 use Rattle.regrouping.specs.Promises.{RegroupPromise, DifferingPromise}
 
 -- two answers that keep the promise of `regroup` are the same
@@ -31,3 +34,14 @@ unfolding regrouping-says
 accepted-exactly first second file r m h =
     let e = regroups-exactly rows rows-proper first second file h in
     ((λ i. e .0 (sym m ∙ ap regrouping-says i)), (λ g. one-regrouping r the.Accepted (m ∙ e .1 g)))
+
+-- Any other answer is the first by the order of the checks: one of the cases of `AnswerIs` holds, and no other answer has one.
+pub answers-in-order : (first second file : List ℕ) (r : Regrouping) → RegroupPromise first second file r → All (λ b. b < 256) file → (a : RegroupingAnswer)
+    → AnswerIs rows first second file a ↔ (a ≡ regrouping-says r)
+answers-in-order first second file r m h a =
+    let e = in-order.answers-in-order rows rows-proper first second file h a in
+    ((λ i. e .0 i ∙ sym m), (λ i. e .1 (i ∙ m)))
+
+-- For two accepted messages an acceptable list exists exactly when every payment, taken as its seventeen fields, stands equally often in both.
+pub list-exists-exactly : (first second : List ℕ) (a : Accepted rows first) (b : Accepted rows second) → AcceptableList rows first second ↔ EquallyOften (a .root) (b .root)
+list-exists-exactly first second a b = regroups.list-exists-exactly rows rows-proper first second a b
