@@ -16,7 +16,7 @@ use Rattle.paper.specs.Rows.{Row}
 use Rattle.paper.specs.Values.{among}
 use Rattle.paper.specs.Refusals.{Refusal, _or-else_, table-refusal, size-refusal, tree-refusal, Outcome, refused-as, accepted-with, unless-refused, of-reading, outcome-alone, outcome, MessageAnswer, refused, accepted, answer-to, verdict}
 use Rattle.paper.specs.Accepted.{All, all-none, all-more, RowsKept, LimitsKept, ValuesRight, UsageKept, IdsApart, TotalFits, CountsTrue, Accepted}
-use Rattle.paper.specs.Order.{Stage, for-table, for-size, for-form, for-rows, for-limits, for-values, for-usage, for-ids, for-total, for-counts, order, numbers, OfItsRoot, Holds, FirstNot, this-one, a-later-one}
+use Rattle.paper.specs.Order.{Stage, for-table, for-size, for-form, for-rows, for-limits, for-values, for-usage, for-ids, for-total, for-counts, order, numbers, OfItsRoot, StageHolds, FirstNot, this-one, a-later-one}
 use Rattle.paper.proofs.Laws.{some-not-none, all-member}
 use Rattle.grammar.proofs.Complete.{complete}
 use Rattle.grammar.proofs.Sound.{sound}
@@ -125,17 +125,17 @@ size-gives : (s : List ℕ) → Gives (numbers for-size) (size-refusal s)
 unfolding size-refusal numbers
 size-gives s = if-gives (ltb largest-message (length s)) (refuse-gives 0 largest-message (List·Memᴰ·head refl)) gives-none
 
-table-holds : (profile : List Row) (n : ℕ) (s : List ℕ) → table-refusal n ≡ none ↔ Holds profile n s for-table
-unfolding Holds
+table-holds : (profile : List Row) (n : ℕ) (s : List ℕ) → table-refusal n ≡ none ↔ StageHolds profile n s for-table
+unfolding StageHolds
 table-holds profile n s = table-kept n
 
-size-holds : (profile : List Row) (n : ℕ) (s : List ℕ) → size-refusal s ≡ none ↔ Holds profile n s for-size
-unfolding Holds
+size-holds : (profile : List Row) (n : ℕ) (s : List ℕ) → size-refusal s ≡ none ↔ StageHolds profile n s for-size
+unfolding StageHolds
 size-holds profile n s = size-kept s
 
 module _ (profile : List Row) (proper : Proper profile) (n : ℕ) (s : List ℕ) where
   abbrev H : Stage → Type 0
-  H = Holds profile n s
+  H = StageHolds profile n s
 
   -- the root of a message is the one that its reading gives
   its-root : (P : Element → Type 0) {root : Element} → read s ≡ root-is root → OfItsRoot s P → P root
@@ -151,7 +151,7 @@ module _ (profile : List Row) (proper : Proper profile) (n : ℕ) (s : List ℕ)
     of-root P h = ((λ f. (root, sound s root e, h .0 f)), (λ k. h .1 (its-root P e k)))
 
     in-tree : Stops H (tree-refusal profile root) tree-stages
-    unfolding tree-refusal Holds numbers
+    unfolding tree-refusal StageHolds numbers
     in-tree =
         stage-then H for-rows _ (rows-give profile root) (of-root (RowsKept profile) (rows-kept profile (proper .apart) root))
         (λ a.
@@ -170,7 +170,7 @@ module _ (profile : List Row) (proper : Proper profile) (n : ℕ) (s : List ℕ)
         here H for-counts (counts-give root) (of-root CountsTrue (counts-true root amounts (block-amounts-there profile proper root kept))) f))))))
 
   of-form : (r : Reading) → read s ≡ r → Ends H (of-reading profile r) (for-form ∷ tree-stages)
-  unfolding of-reading Holds numbers OfTheForm unless-refused
+  unfolding of-reading StageHolds numbers OfTheForm unless-refused
   of-form (stops-at k) e r f =
       let g : _≡_ {A = Refusal} (record { number = 2; element = 0; offset = k }) r = cc in
       subst (λ (y : Refusal). OfFirst H (for-form ∷ tree-stages) (y .number)) g
@@ -188,7 +188,7 @@ module _ (profile : List Row) (proper : Proper profile) (n : ℕ) (s : List ℕ)
 
   -- an accepted message: every stage holds
   all-hold : (root : Element) → outcome profile n s ≡ accepted-with root → All H order
-  unfolding order Holds OfTheForm OfItsRoot
+  unfolding order StageHolds OfTheForm OfItsRoot
   all-hold root e =
       let a = accepted-with-table profile proper n s root .0 e in
       let b = accepted-alone profile proper s root .0 (a .1) in
@@ -206,14 +206,14 @@ module _ (profile : List Row) (proper : Proper profile) (n : ℕ) (s : List ℕ)
       (all-more {a = for-total} (root, m, c .total) (all-more {a = for-counts} (root, m, t .counts) all-none)))))))))
 
   -- The answer's number is one of a stage's exactly where that stage is the first that does not hold.
-  pub refused-by : (stage : Stage) → List·Memᴰ (verdict profile n s .number) (numbers stage) ↔ FirstNot (Holds profile n s) order stage
+  pub refused-by : (stage : Stage) → List·Memᴰ (verdict profile n s .number) (numbers stage) ↔ FirstNot (StageHolds profile n s) order stage
   unfolding verdict answer-to refused accepted
   refused-by stage = go (outcome profile n s) refl
     where
-      go : (o : Outcome) → outcome profile n s ≡ o → List·Memᴰ (answer-to o .number) (numbers stage) ↔ FirstNot (Holds profile n s) order stage
+      go : (o : Outcome) → outcome profile n s ≡ o → List·Memᴰ (answer-to o .number) (numbers stage) ↔ FirstNot (StageHolds profile n s) order stage
       go (refused-as r) e =
           let f = by-first r e in (
-            (λ m. subst (λ (a : Stage). FirstNot (Holds profile n s) order a) (one-stage (f .stage) stage (f .its-number) m) (f .is-first)),
+            (λ m. subst (λ (a : Stage). FirstNot (StageHolds profile n s) order a) (one-stage (f .stage) stage (f .its-number) m) (f .is-first)),
             (λ k. subst (λ (a : Stage). List·Memᴰ (r .number) (numbers a)) (one-first H (f .is-first) k) (f .its-number)),
           )
       go (accepted-with root) e = ((λ m. no-stage stage m), (λ k. absurd (none-first H (all-hold root e) k)))
@@ -254,7 +254,7 @@ module _ (profile : List Row) (proper : Proper profile) (n : ℕ) (s : List ℕ)
       go (stops-at j) p q = let z : j ≡ k = ap (λ (a : MessageAnswer). a .offset) q in stop-is-refusal s k (p ∙ ap stops-at z)
 
   pub form-refused : (k : ℕ) → verdict profile n s ≡ two-at k ↔ (least-table ≤ n) × (length s ≤ largest-message) × FirstImpossible s k
-  unfolding verdict answer-to refused of-reading order numbers Holds
+  unfolding verdict answer-to refused of-reading order numbers StageHolds
   form-refused k = (there, back)
     where
       there : verdict profile n s ≡ two-at k → (least-table ≤ n) × (length s ≤ largest-message) × FirstImpossible s k

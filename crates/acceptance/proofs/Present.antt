@@ -1,16 +1,16 @@
 -- What stands in a message whose root conforms to the rows: its blocks and payments, the leaves that must be there, and the pairs of the table.
 use Prim.Native.Nat.{ℕ, suc}
 use mathlib.Core.List.{List, [], _∷_, _++_, map, List·Memᴰ, List·Memᴰ·cases-cons, List·Memᴰ·eq-of-singleton}
-use mathlib.Core.Bool.{true}
+use mathlib.Core.Bool.{Bool, true, false}
 use mathlib.Core.Option.{Option, none, some}
 use mathlib.Core.Path.{_≡_, refl, sym, ap, _∙_, subst}
 use mathlib.Core.Logic.{⊎-elim, _⊎_, inl, inr}
 use Rattle.paper.specs.Form.{Head, Element}
 use Rattle.paper.specs.Rows.{Row, row-of, Conforms}
-use Rattle.paper.specs.Payments.{Payment, all-of, child, follow, blocks, of-header, header-count, header-sum, block-id, block-count, block-sum, payments, payments-of, payments-from, in-payment, in-block, either-of, inherited}
-use Rattle.paper.specs.Fields.{plain, or-means, amount-field, remittance, fields, never-absent, FieldsThere}
+use Rattle.paper.specs.Payments.{Payment, all-of, child, follow, blocks, of-header, header-count, header-sum, block-id, block-count, block-sum, instructed-amount, payments, payments-of, payments-from, in-payment, in-block, either-of, inherited}
+use Rattle.paper.specs.Fields.{plain, or-means, amount-field, remittance, fields}
 use Rattle.paper.specs.Table.{pairs, must-be-there, PairsThere}
-use Rattle.paper.specs.Accepted.{All, all-none, all-more, each-none, each-more, There, AnyText, RowsKept, Used, UsageKept, AcceptedTree, LeavesThere}
+use Rattle.paper.specs.Accepted.{All, all-none, all-more, EachWith, each-none, each-more, There, AnyText, RowsKept, Used, UsageKept, AcceptedTree}
 use Rattle.paper.proofs.Laws.{false-not-true, some-not-none, both-left, both-right, all-joined, all-map}
 use Rattle.acceptance.proofs.Routes.{steps, step-all, choice-there, follow-conforms, follow-there, EndsAs}
 use Rattle.acceptance.proofs.Proper.{leads, Proper}
@@ -77,6 +77,15 @@ child-of k t h = go (child k t) refl (h .is-it)
     go none e f = some-not-none (sym f)
     go (some u) e f = record { it = u; is-it = e }
 
+-- The leaves that the rules speak of are there in every message that keeps the rows.
+pub record LeavesThere (root : Element) : Type 0 where
+  pub count-there : There (header-count root)
+  pub sum-there : There (header-sum root)
+  pub id-of-each : All (λ b. There (block-id b)) (blocks root)
+  pub count-of-each : All (λ b. There (block-count b)) (blocks root)
+  pub sum-of-each : All (λ b. There (block-sum b)) (blocks root)
+  pub amount-of-each : All (λ p. There (instructed-amount (p .own))) (payments root)
+
 pub leaves-there : (profile : List Row) → Proper profile → (root : Element) → RowsKept profile root → LeavesThere root
 unfolding RowsKept of-header
 leaves-there profile proper root kept =
@@ -119,7 +128,14 @@ unfolding RowsKept UsageKept
 no-other-absent profile proper root a =
     both-of (pairs-there profile proper AnyText) (payments-as profile proper AnyText root (a .but-counts .rows)) (a .but-counts .usage)
 
--- Nor is one of the fields that must be there.
+-- Nor is one of fields 4 to 7, 10, 11, 13 and 14.
+unfoldable pub never-absent : List Bool
+never-absent =
+    false ∷ false ∷ false ∷ true ∷ true ∷ true ∷ true ∷ false ∷ false ∷ true ∷ true ∷ false ∷ true ∷ true ∷ false ∷ false ∷ false ∷ []
+
+unfoldable pub FieldsThere : Payment → Type 0
+FieldsThere p = EachWith (λ must f. must ≡ true → There (f .element)) never-absent (fields p)
+
 follow-joined : (route : List ℕ) (k : ℕ) (t u v : Element) → follow route t ≡ some u → child k u ≡ some v → follow (route ++ (k ∷ [])) t ≡ some v
 unfolding follow
 follow-joined [] k t u v e f = let g : t ≡ u = cc in follow-one k t v (ap (child k) g ∙ f)

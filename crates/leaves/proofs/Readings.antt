@@ -9,7 +9,7 @@ use Rattle.paper.specs.Values.{number, cents, digits, money}
 use Rattle.paper.proofs.Laws.{false-not-true}
 use Rattle.numbers.specs.declared.Reading.{Reading}
 use Rattle.numbers.specs.declared.Reading.the-variants.{Not, Number}
-use Rattle.numbers.specs.Readings.{counted, in-cents}
+use Rattle.numbers.specs.Readings.{as-count, in-cents}
 
 -- what a reading says of a text that is right
 says : (c : Bool) (m : ℕ) {r : Reading} {n : ℕ} → r ≡ (if c then Number m else Not) → r ≡ Number n → c ≡ true → n ≡ m
@@ -21,13 +21,13 @@ says-not true m e d h = let z : _≡_ {A = ℕ} 0 1 = cc in absurd (omega (arith
 says-not false m e d h = false-not-true h
 
 module _ {v : List ℕ} {r : Reading} (w : List ℕ) (same-text : v ≡ w) where
-  pub count-read : {n : ℕ} → r ≡ counted v → r ≡ Number n → digits 1 15 w ≡ true → n ≡ number w
-  unfolding counted
-  count-read e d h = says (digits 1 15 w) (number w) (e ∙ ap counted same-text) d h
+  pub count-read : {n : ℕ} → r ≡ as-count v → r ≡ Number n → digits 1 15 w ≡ true → n ≡ number w
+  unfolding as-count
+  count-read e d h = says (digits 1 15 w) (number w) (e ∙ ap as-count same-text) d h
 
-  pub count-not : {A : Type 0} → r ≡ counted v → r ≡ Not → digits 1 15 w ≡ true → A
-  unfolding counted
-  count-not e d h = says-not (digits 1 15 w) (number w) (e ∙ ap counted same-text) d h
+  pub count-not : {A : Type 0} → r ≡ as-count v → r ≡ Not → digits 1 15 w ≡ true → A
+  unfolding as-count
+  count-not e d h = says-not (digits 1 15 w) (number w) (e ∙ ap as-count same-text) d h
 
   pub cents-read : {n : ℕ} → r ≡ in-cents v → r ≡ Number n → money w ≡ true → n ≡ cents w
   unfolding in-cents

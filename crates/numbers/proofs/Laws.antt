@@ -11,7 +11,7 @@ use lib.Seq.{take-suc, take-all}
 use lib.Dec.{leb}
 use borrow.Author.Tests.{leb-true}
 use Rattle.paper.specs.Bytes.{digit, every}
-use Rattle.paper.specs.Values.{number-after, number, lies-from, digits, part}
+use Rattle.paper.specs.Values.{number-after, number, lies-from, digits, piece}
 use Rattle.numbers.specs.Readings.{Spells}
 use Rattle.paper.proofs.Laws.{both-left, both-right}
 
@@ -69,6 +69,6 @@ pub spelled : (w : List ℕ) (n : ℕ) → Spells w n → length w ≤ 15 → n 
 spelled w n e h = e .spells ∙ ap number (take-all 15 w h)
 
 -- the number of a part of a text
-pub spelled-part : (w : List ℕ) (from size n : ℕ) → size ≤ 15 → Spells (take size (drop from w)) n → n ≡ number (part from size w)
-unfolding part
+pub spelled-part : (w : List ℕ) (from size n : ℕ) → size ≤ 15 → Spells (take size (drop from w)) n → n ≡ number (piece from size w)
+unfolding piece
 spelled-part w from size n h e = spelled (take size (drop from w)) n e (omega (arith, length-take size (drop from w)))

@@ -14,8 +14,8 @@ pub record Spells (w : List ℕ) (n : ℕ) : Type 0 where
   pub bounded : n < 29000000000000000
 
 -- A count of at most fifteen digits as a number; any other text is `Not`.
-unfoldable pub counted : List ℕ → Reading
-counted w = if digits 1 15 w then Number (number w) else Not
+unfoldable pub as-count : List ℕ → Reading
+as-count w = if digits 1 15 w then Number (number w) else Not
 
 -- Money in cents; a text that is no money is `Not`.
 unfoldable pub in-cents : List ℕ → Reading

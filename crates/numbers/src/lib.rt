@@ -2,7 +2,7 @@
 ghost use mathlib.Core.Path.{_≡_};
 ghost use Prim.Native.Nat.{_-_, _<_, _*_};
 ghost use Rattle.paper.specs.Values.{lies-from, number, count, digits};
-ghost use Rattle.numbers.specs.Readings.{Spells, counted};
+ghost use Rattle.numbers.specs.Readings.{Spells, as-count};
 
 // What a text says as a number.
 pub enum Reading {
@@ -71,7 +71,7 @@ pub fn count(s: &[u8]) -> bool
 
 // The number of a count of at most fifteen digits.
 pub fn count_number(s: &[u8]) -> Reading
-    ensures { λ r. ⌜ r ≡ counted (now (s .entry)) ⌝ }
+    ensures { λ r. ⌜ r ≡ as-count (now (s .entry)) ⌝ }
 {
     if !digits(1, 15, s) {
         return Reading::Not;

@@ -119,12 +119,3 @@ pub record Accepted (profile : List Row) (s : List ℕ) : Type 0 where
   pub root : Element
   pub form : IsMessage s root
   pub tree : AcceptedTree profile root
-
--- The leaves that these rules speak of are there. (Proved of every message that keeps the rows: crates/acceptance/proofs/Present.antt, `leaves-there`.)
-pub record LeavesThere (root : Element) : Type 0 where
-  pub count-there : There (header-count root)
-  pub sum-there : There (header-sum root)
-  pub id-of-each : All (λ b. There (block-id b)) (blocks root)
-  pub count-of-each : All (λ b. There (block-count b)) (blocks root)
-  pub sum-of-each : All (λ b. There (block-sum b)) (blocks root)
-  pub amount-of-each : All (λ p. There (instructed-amount (p .own))) (payments root)

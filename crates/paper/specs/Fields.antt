@@ -3,7 +3,6 @@ use Prim.Native.Nat.{ℕ, zero, suc}
 use mathlib.Core.List.{List, [], _∷_, map}
 use mathlib.Core.Option.{Option, none, some}
 use mathlib.Core.Bool.{Bool, true, false, _&&_}
-use mathlib.Core.Path.{_≡_}
 use lib.ListN.{getD}
 use lib.Dec.{eqb}
 use Rattle.paper.specs.Bytes.{if_then_else_, bytes, same}
@@ -11,7 +10,6 @@ use Rattle.paper.specs.Form.{Element}
 use Rattle.paper.specs.Values.{cents}
 use Rattle.paper.specs.Payments.{Payment, text-of, payments, in-payment, in-block, inherited, either-of}
 use Rattle.paper.specs.Refusals.{Outcome, refused-as, accepted-with}
-use Rattle.paper.specs.Accepted.{EachWith, There}
 use Rattle.paper.specs.Table.{Part, part-of}
 
 -- What a field comes to. Remittance has its kind: a free text, or a reference, perhaps with an issuer.
@@ -81,14 +79,6 @@ fields p =
     plain (in-payment (47 ∷ 21 ∷ []) p) ∷  -- 16 purpose
     -- 17 remittance: its kind with its text, or with issuer and reference
     remittance (in-payment (48 ∷ 49 ∷ []) p) (in-payment (48 ∷ 50 ∷ 51 ∷ 52 ∷ 54 ∷ []) p) (in-payment (48 ∷ 50 ∷ 51 ∷ 55 ∷ []) p) ∷ []
-
--- Fields 4 to 7, 10, 11, 13 and 14 are there in every payment of an accepted message. (Proved: crates/acceptance/proofs/Present.antt, `fields-there`.)
-unfoldable pub never-absent : List Bool
-never-absent =
-    false ∷ false ∷ false ∷ true ∷ true ∷ true ∷ true ∷ false ∷ false ∷ true ∷ true ∷ false ∷ true ∷ true ∷ false ∷ false ∷ false ∷ []
-
-unfoldable pub FieldsThere : Payment → Type 0
-FieldsThere p = EachWith (λ must f. must ≡ true → There (f .element)) never-absent (fields p)
 
 unfoldable pub values-of : Payment → List Value
 values-of p = map (λ f. f .value) (fields p)

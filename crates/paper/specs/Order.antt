@@ -37,17 +37,17 @@ unfoldable pub OfItsRoot : List ℕ → (Element → Type 0) → Type 0
 OfItsRoot s P = (root : Element) × IsMessage s root × P root
 
 -- What `Accepted` says of a stage, and of the table's length.
-unfoldable pub Holds : (profile : List Row) (table-length : ℕ) (s : List ℕ) → Stage → Type 0
-Holds profile n s for-table = least-table ≤ n
-Holds profile n s for-size = length s ≤ largest-message
-Holds profile n s for-form = OfTheForm s
-Holds profile n s for-rows = OfItsRoot s (RowsKept profile)
-Holds profile n s for-limits = OfItsRoot s LimitsKept
-Holds profile n s for-values = OfItsRoot s (ValuesRight profile)
-Holds profile n s for-usage = OfItsRoot s UsageKept
-Holds profile n s for-ids = OfItsRoot s IdsApart
-Holds profile n s for-total = OfItsRoot s TotalFits
-Holds profile n s for-counts = OfItsRoot s CountsTrue
+unfoldable pub StageHolds : (profile : List Row) (table-length : ℕ) (s : List ℕ) → Stage → Type 0
+StageHolds profile n s for-table = least-table ≤ n
+StageHolds profile n s for-size = length s ≤ largest-message
+StageHolds profile n s for-form = OfTheForm s
+StageHolds profile n s for-rows = OfItsRoot s (RowsKept profile)
+StageHolds profile n s for-limits = OfItsRoot s LimitsKept
+StageHolds profile n s for-values = OfItsRoot s (ValuesRight profile)
+StageHolds profile n s for-usage = OfItsRoot s UsageKept
+StageHolds profile n s for-ids = OfItsRoot s IdsApart
+StageHolds profile n s for-total = OfItsRoot s TotalFits
+StageHolds profile n s for-counts = OfItsRoot s CountsTrue
 
 -- The first of some stages that does not hold: those before it do.
 pub data FirstNot (H : Stage → Type 0) : List Stage → Stage → Type 0 where

@@ -38,8 +38,8 @@ shaped (c ∷ˢ p) [] = false
 shaped (c ∷ˢ p) (b ∷ s) = fits c b && shaped p s
 
 -- the bytes of a text from a place on, so many
-unfoldable pub part : (from size : ℕ) → List ℕ → List ℕ
-part from size w = take size (drop from w)
+unfoldable pub piece : (from size : ℕ) → List ℕ → List ℕ
+piece from size w = take size (drop from w)
 
 -- Rows 4, 11, 39, 40: no `/` first or last, no `//`.
 unfoldable pub two-slashes : List ℕ → Bool
@@ -63,13 +63,13 @@ unfoldable pub true-day : (year month day : ℕ) → Bool
 true-day year month day = lies-from 2000 2099 year && lies-from 1 12 month && lies-from 1 (days-in year month) day
 
 unfoldable pub date : List ℕ → Bool
-date w = shaped "0000-00-00" w && true-day (number (part 0 4 w)) (number (part 5 2 w)) (number (part 8 2 w))
+date w = shaped "0000-00-00" w && true-day (number (piece 0 4 w)) (number (piece 5 2 w)) (number (piece 8 2 w))
 
 -- Row 5: such a day, `T`, `hh:mm:ss` up to 23:59:59.
 unfoldable pub date-and-time : List ℕ → Bool
 date-and-time w =
-    shaped "0000-00-00T00:00:00" w && date (part 0 10 w) && leb (number (part 11 2 w)) 23 && leb (number (part 14 2 w)) 59 &&
-    leb (number (part 17 2 w)) 59
+    shaped "0000-00-00T00:00:00" w && date (piece 0 10 w) && leb (number (piece 11 2 w)) 23 && leb (number (piece 14 2 w)) 59 &&
+    leb (number (piece 17 2 w)) 59
 
 -- Rows 6, 14: digits; leading zeros allowed. The count is their number.
 unfoldable pub count : List ℕ → Bool
@@ -129,7 +129,7 @@ read-after n (b ∷ s) = read-after (if digit b then n * 10 + (b - code "0") els
 
 unfoldable pub iban : List ℕ → Bool
 iban w =
-    shaped "AA00" (take 4 w) && lies-from 2 98 (number (part 2 2 w)) && every capital-or-digit (drop 4 w) && of-a-country countries w &&
+    shaped "AA00" (take 4 w) && lies-from 2 98 (number (piece 2 2 w)) && every capital-or-digit (drop 4 w) && of-a-country countries w &&
     eqb (read-after 0 (moved w) % 97) 1
 
 -- The row of a leaf decides its rule; the row above it where it matters: row 19 is `SEPA`, and under row 53 `SCOR`. Row 42 has its currency. Names, free text,

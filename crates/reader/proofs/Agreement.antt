@@ -12,16 +12,15 @@ use Rattle.paper.specs.Rows.{rows}
 use Rattle.paper.specs.Payments.{blocks, payments, total}
 use Rattle.paper.specs.Refusals.{Outcome, refused-as, accepted-with, MessageAnswer, accepted, refused, answer-to, outcome, verdict}
 use Rattle.paper.specs.Accepted.{All, Accepted}
-use Rattle.paper.specs.Order.{Stage, order, numbers, Holds, FirstNot}
+use Rattle.paper.specs.Order.{Stage, order, numbers, StageHolds, FirstNot}
 use Rattle.paper.specs.Table.{over, written, table-after, PairsThere}
-use Rattle.paper.specs.Fields.{FieldsThere}
 use Rattle.paper.specs.Answers.{verdict-says, refusal-of, numbered}
 use Rattle.paper.specs.declared.Fault.{Fault}
 use Rattle.paper.specs.declared.Fault.the-variants.{NotOfTheForm}
 use Rattle.paper.specs.declared.Verdict.{Verdict}
 use Rattle.paper.specs.declared.Verdict.the-variants as the
 use Rattle.acceptance.proofs.Proper.{rows-proper}
-use Rattle.acceptance.proofs.Present.{no-other-absent, fields-there}
+use Rattle.acceptance.proofs.Present.{no-other-absent, FieldsThere, fields-there}
 use Rattle.acceptance.proofs.Outcome.{accepted-alone, accepted-with-table}
 use Rattle.acceptance.proofs.Accepts.{accepts-with-table}
 use Rattle.acceptance.proofs.Order as the-order
@@ -64,7 +63,7 @@ module _ {s before after : List ℕ} {v : Verdict} (a : VerdictPromise s before 
       ((λ i. z .0 (sym number-is ∙ accepted-zero i)), (λ h. zero-accepted v (number-is ∙ z .1 h)))
 
   -- Otherwise the refusal is the first by the order of the checks: its number is one of the first stage that does not hold.
-  pub refused-by : (stage : Stage) → List·Memᴰ (verdict-says v .number) (numbers stage) ↔ FirstNot (Holds rows (length before) s) order stage
+  pub refused-by : (stage : Stage) → List·Memᴰ (verdict-says v .number) (numbers stage) ↔ FirstNot (StageHolds rows (length before) s) order stage
   refused-by stage =
       let z = the-order.refused-by rows rows-proper (length before) s stage in (
         (λ m. z .0 (subst (λ (n : ℕ). List·Memᴰ n (numbers stage)) number-is m)),

@@ -4,7 +4,7 @@ use mathlib.Core.Path.{_≡_, sym, _∙_}
 use lib.ListN.{take, drop, length-take}
 use borrow.Author.Tests.{not-true, not-false}
 use Rattle.paper.specs.Bytes.{bytes, every, capital-or-digit}
-use Rattle.paper.specs.Values.{lies-from, number, part, shaped, of-a-country, iban, countries}
+use Rattle.paper.specs.Values.{lies-from, number, piece, shaped, of-a-country, iban, countries}
 use Rattle.texts.specs.Shapes.{fits-byte}
 use Rattle.texts.proofs.Laws.{shaped-is, pairwise-length, rest-is, every-capital-or-digit}
 use Rattle.numbers.proofs.Laws.{spelled-part}
@@ -18,7 +18,7 @@ shape-is : (c : tie.After-shaped) → shaped "AA00" (take 4 (c .before .before .
 unfolding bytes
 shape-is c = shaped-is "AA00" (take 4 (c .before .before .before .before .before .before .args .s .now)) ∙ sym (c .shaped .ensures)
 
-check-is : (c : tie.After-lies-from) → lies-from 2 98 (number (part 2 2 (c .before .before .before .before .before .before .before .before .before .before .args .s .now))) ≡ c .lies-from .result
+check-is : (c : tie.After-lies-from) → lies-from 2 98 (number (piece 2 2 (c .before .before .before .before .before .before .before .before .before .before .args .s .now))) ≡ c .lies-from .result
 check-is c = rw (← spelled-part (c .before .before .before .before .before .before .before .before .before .before .args .s .now) 2 2 _ (omega arith) (c .before .number .ensures)) (sym (c .lies-from .ensures))
 
 behind-is : (c : tie.After-every) → every capital-or-digit (drop 4 (c .before .before .before .before .before .before .before .before .before .before .before .before .args .s .now)) ≡ c .every .result

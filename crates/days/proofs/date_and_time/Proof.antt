@@ -3,7 +3,7 @@ use native.Mathlib.Omega.{arith}
 use mathlib.Core.Path.{_≡_, sym, _∙_}
 use borrow.Author.Tests.{not-true, not-false, lt-leb, le-leb}
 use Rattle.paper.specs.Bytes.{bytes}
-use Rattle.paper.specs.Values.{shaped, date, number, part, date-and-time}
+use Rattle.paper.specs.Values.{shaped, date, number, piece, date-and-time}
 use Rattle.texts.specs.Shapes.{fits-byte}
 use Rattle.texts.proofs.Laws.{shaped-is, pairwise-same-length}
 use Rattle.numbers.proofs.Laws.{spelled-part}
@@ -15,17 +15,17 @@ shape-is : (c : tie.After-shaped) → shaped "0000-00-00T00:00:00" (c .before .b
 unfolding bytes
 shape-is c = shaped-is "0000-00-00T00:00:00" (c .before .before .before .args .s .now) ∙ sym (c .shaped .ensures)
 
-date-is : (c : tie.After-date) → date (part 0 10 (c .before .before .before .before .before .before .args .s .now)) ≡ c .date .result
-unfolding part
+date-is : (c : tie.After-date) → date (piece 0 10 (c .before .before .before .before .before .before .args .s .now)) ≡ c .date .result
+unfolding piece
 date-is c = sym (c .date .ensures)
 
-hours : (c : tie.After-number) → number (part 11 2 (c .before .before .before .before .before .before .before .before .before .args .s .now)) ≡ c .number .result
+hours : (c : tie.After-number) → number (piece 11 2 (c .before .before .before .before .before .before .before .before .before .args .s .now)) ≡ c .number .result
 hours c = sym (spelled-part (c .before .before .before .before .before .before .before .before .before .args .s .now) 11 2 _ (omega arith) (c .number .ensures))
 
-minutes : (c : tie.After-number2) → number (part 14 2 (c .before .before .before .before .before .before .before .before .before .before .before .before .args .s .now)) ≡ c .number2 .result
+minutes : (c : tie.After-number2) → number (piece 14 2 (c .before .before .before .before .before .before .before .before .before .before .before .before .args .s .now)) ≡ c .number2 .result
 minutes c = sym (spelled-part (c .before .before .before .before .before .before .before .before .before .before .before .before .args .s .now) 14 2 _ (omega arith) (c .number2 .ensures))
 
-seconds : (c : tie.After-number3) → number (part 17 2 (c .before .before .before .before .before .before .before .before .before .before .before .before .before .before .before .args .s .now)) ≡ c .number3 .result
+seconds : (c : tie.After-number3) → number (piece 17 2 (c .before .before .before .before .before .before .before .before .before .before .before .before .before .before .before .args .s .now)) ≡ c .number3 .result
 seconds c = sym (spelled-part (c .before .before .before .before .before .before .before .before .before .before .before .before .before .before .before .args .s .now) 17 2 _ (omega arith) (c .number3 .ensures))
 
 slice-aggregate-shaped : tie.Need-slice-aggregate-shaped
