@@ -14,7 +14,8 @@ ghost use Rattle.alike.specs.Alike.{is-absent, InPayment, free-of, issue
 
 // An element that may be absent has the text that its absence means.
 fn means(s: &[u8], tree: &[u16], found: Found, otherwise: &[u8]) -> bool
-    ensures { λ r. ⌜ ((o : Option Element) → Finds (now (s .entry)) (now (tree .entry)) o found → r ≡ same-value (a-text (now (otherwise .entry))) (text-value-or (now (otherwise .entry)) o)) ⌝ }
+    ensures { λ r. ⌜ ((o : Option Element) → Finds (now (s .entry)) (now (tree .entry)) o found
+        → r ≡ same-value (a-text (now (otherwise .entry))) (text-value-or (now (otherwise .entry)) o)) ⌝ }
 {
     let Found::At(i) = found else {
         return true;
@@ -32,7 +33,8 @@ pub fn same_or(
     found2: Found,
     otherwise: &[u8],
 ) -> bool
-    ensures { λ r. ⌜ ((o u : Option Element) → Finds (now (s1 .entry)) (now (tree1 .entry)) o found1 → Finds (now (s2 .entry)) (now (tree2 .entry)) u found2 → r ≡ same-value (text-value-or (now (otherwise .entry)) o) (text-value-or (now (otherwise .entry)) u)) ⌝ }
+    ensures { λ r. ⌜ ((o u : Option Element) → Finds (now (s1 .entry)) (now (tree1 .entry)) o found1 → Finds (now (s2 .entry)) (now (tree2 .entry)) u found2
+        → r ≡ same-value (text-value-or (now (otherwise .entry)) o) (text-value-or (now (otherwise .entry)) u)) ⌝ }
 {
     let Found::At(i) = found1 else {
         return means(s2, tree2, found2, otherwise);
@@ -62,7 +64,8 @@ pub fn same_given(
     tree2: &[u16],
     found2: Found,
 ) -> bool
-    ensures { λ r. ⌜ ((o u : Option Element) → Finds (now (s1 .entry)) (now (tree1 .entry)) o found1 → Finds (now (s2 .entry)) (now (tree2 .entry)) u found2 → r ≡ same-value (text-value o) (text-value u)) ⌝ }
+    ensures { λ r. ⌜ ((o u : Option Element) → Finds (now (s1 .entry)) (now (tree1 .entry)) o found1 → Finds (now (s2 .entry)) (now (tree2 .entry)) u found2
+        → r ≡ same-value (text-value o) (text-value u)) ⌝ }
 {
     let Found::At(i) = found1 else {
         return absent(found2);
@@ -123,7 +126,9 @@ fn same_structured(
     tree2: &[u16],
     own2: usize,
 ) -> bool
-    ensures { λ r. ⌜ ((p q : Payment) (m n : ℕ) → Laid (now (s1 .entry)) (now (tree1 .entry)) (p .own) own1 m → Laid (now (s2 .entry)) (now (tree2 .entry)) (q .own) own2 n → r ≡ same-value (remittance-value none (issuer-of p) (reference-of p)) (remittance-value none (issuer-of q) (reference-of q))) ⌝ }
+    ensures { λ r. ⌜ ((p q : Payment) (m n : ℕ) → Laid (now (s1 .entry)) (now (tree1 .entry)) (p .own) own1 m
+        → Laid (now (s2 .entry)) (now (tree2 .entry)) (q .own) own2 n
+        → r ≡ same-value (remittance-value none (issuer-of p) (reference-of p)) (remittance-value none (issuer-of q) (reference-of q))) ⌝ }
 {
     let reference1 = reference(s1, tree1, own1);
     let reference2 = reference(s2, tree2, own2);
@@ -147,7 +152,9 @@ pub fn same_remittance(
     tree2: &[u16],
     own2: usize,
 ) -> bool
-    ensures { λ r. ⌜ ((p q : Payment) (m n : ℕ) → Laid (now (s1 .entry)) (now (tree1 .entry)) (p .own) own1 m → Laid (now (s2 .entry)) (now (tree2 .entry)) (q .own) own2 n → r ≡ same-value (remittance-value (free-of p) (issuer-of p) (reference-of p)) (remittance-value (free-of q) (issuer-of q) (reference-of q))) ⌝ }
+    ensures { λ r. ⌜ ((p q : Payment) (m n : ℕ) → Laid (now (s1 .entry)) (now (tree1 .entry)) (p .own) own1 m
+        → Laid (now (s2 .entry)) (now (tree2 .entry)) (q .own) own2 n
+        → r ≡ same-value (remittance-value (free-of p) (issuer-of p) (reference-of p)) (remittance-value (free-of q) (issuer-of q) (reference-of q))) ⌝ }
 {
     let free1 = free(s1, tree1, own1);
     let free2 = free(s2, tree2, own2);

@@ -23,7 +23,8 @@ fn same_field(
     block2: usize,
     field: usize,
 ) -> bool
-    ensures { λ r. ⌜ ((p q : Payment) → Stands (now (s1 .entry)) (now (tree1 .entry)) own1 block1 p → Stands (now (s2 .entry)) (now (tree2 .entry)) own2 block2 q → 1 ≤ field → field ≤ 17 → r ≡ same-value (value-at field p) (value-at field q)) ⌝ }
+    ensures { λ r. ⌜ ((p q : Payment) → Stands (now (s1 .entry)) (now (tree1 .entry)) own1 block1 p → Stands (now (s2 .entry)) (now (tree2 .entry)) own2 block2 q
+        → 1 ≤ field → field ≤ 17 → r ≡ same-value (value-at field p) (value-at field q)) ⌝ }
 {
     if field == 17 {
         return alike::same_remittance(s1, tree1, own1, s2, tree2, own2);
@@ -53,7 +54,8 @@ pub fn differing(
     own2: usize,
     block2: usize,
 ) -> Field
-    ensures { λ r. ⌜ ((p q : Payment) → Stands (now (s1 .entry)) (now (tree1 .entry)) own1 block1 p → Stands (now (s2 .entry)) (now (tree2 .entry)) own2 block2 q → lowest r ≡ differ-from 1 (values-of p) (values-of q)) ⌝ }
+    ensures { λ r. ⌜ ((p q : Payment) → Stands (now (s1 .entry)) (now (tree1 .entry)) own1 block1 p → Stands (now (s2 .entry)) (now (tree2 .entry)) own2 block2 q
+        → lowest r ≡ differ-from 1 (values-of p) (values-of q)) ⌝ }
 {
     let mut field = 1;
     while field < 18 {

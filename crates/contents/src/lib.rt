@@ -38,7 +38,8 @@ pub fn text_in_group(
     e: u16,
 ) -> Finding
     ensures { λ r. ⌜ ((h : Head) (next : ℕ) → Entry (now (s .entry)) (now (tree .entry)) i h next
-        → refusal-found r ≡ only-white (of-entry (now (rows .entry)) e 0) (places-between (now (rows .entry)) (now (places .entry)) (of-entry (now (rows .entry)) e 5) (of-entry (now (rows .entry)) e 6)) h (between (h .start) (h .close) (now (s .entry)))) ⌝ }
+        → refusal-found r ≡ only-white (of-entry (now (rows .entry)) e 0)
+        (places-between (now (rows .entry)) (now (places .entry)) (of-entry (now (rows .entry)) e 5) (of-entry (now (rows .entry)) e 6)) h (between (h .start) (h .close) (now (s .entry)))) ⌝ }
 {
     let start = tree::cell(tree, i, 2);
     let close = tree::cell(tree, i, 3);

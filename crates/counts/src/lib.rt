@@ -73,7 +73,8 @@ fn same_cents(cents: u64, sum: Sum) -> bool
 
 // 13: the sum that was found is not this one.
 fn sum_is(s: &[u8], tree: &[u16], found: Found, row: usize, sum: Sum) -> Finding
-    ensures { λ r. ⌜ ((o : Option Element) (n : ℕ) → Finds (now (s .entry)) (now (tree .entry)) o found → ReadMoney o → Sums n sum → refusal-found r ≡ unless (λ w. eqb (cents w) n) 13 row o) ⌝ }
+    ensures { λ r. ⌜ ((o : Option Element) (n : ℕ) → Finds (now (s .entry)) (now (tree .entry)) o found → ReadMoney o → Sums n sum
+        → refusal-found r ≡ unless (λ w. eqb (cents w) n) 13 row o) ⌝ }
 {
     let Found::At(i) = found else {
         return Finding::Refused(Fault::SumDiffers {
@@ -92,7 +93,8 @@ fn sum_is(s: &[u8], tree: &[u16], found: Found, row: usize, sum: Sum) -> Finding
 
 // Where the payments of block k end that stand from payment `from` on.
 fn block_end(out: &[u16], k: usize, from: usize, payments: usize) -> usize
-    ensures { λ r. ⌜ ((s tree : List ℕ) (ps rest : List Payment) → PaymentsAt s tree (now (out .entry)) from (ps ++ rest) → payments ≡ from + length (ps ++ rest) → payments ≤ 64 → All (InBlock k) ps → All (BehindBlock k) rest → r ≡ from + length ps) ⌝ }
+    ensures { λ r. ⌜ ((s tree : List ℕ) (ps rest : List Payment) → PaymentsAt s tree (now (out .entry)) from (ps ++ rest) → payments ≡ from + length (ps ++ rest)
+        → payments ≤ 64 → All (InBlock k) ps → All (BehindBlock k) rest → r ≡ from + length ps) ⌝ }
 {
     let mut at = from;
     while at < payments {
@@ -106,7 +108,9 @@ fn block_end(out: &[u16], k: usize, from: usize, payments: usize) -> usize
 
 // 12 and 13 of the block at element `block`, whose payments stand from one up to another.
 fn in_block(s: &[u8], tree: &[u16], out: &[u16], block: usize, from: usize, to: usize) -> Finding
-    ensures { λ r. ⌜ ((b : Element) (next : ℕ) (ps : List Payment) → Laid (now (s .entry)) (now (tree .entry)) b block next → PaymentsAt (now (s .entry)) (now (tree .entry)) (now (out .entry)) from ps → to ≡ from + length ps → to ≤ 64 → map (λ p. p .own) ps ≡ all-of 37 b → ReadBlock b → All ReadPayment ps → refusal-found r ≡ block-refusal b) ⌝ }
+    ensures { λ r. ⌜ ((b : Element) (next : ℕ) (ps : List Payment) → Laid (now (s .entry)) (now (tree .entry)) b block next
+        → PaymentsAt (now (s .entry)) (now (tree .entry)) (now (out .entry)) from ps → to ≡ from + length ps → to ≤ 64 → map (λ p. p .own) ps ≡ all-of 37 b → ReadBlock b
+        → All ReadPayment ps → refusal-found r ≡ block-refusal b) ⌝ }
 {
     if to < from {
         return Finding::Nothing;
@@ -144,7 +148,8 @@ fn in_blocks(s: &[u8], tree: &[u16], out: &[u16], blocks: usize, payments: usize
 
 // 12 and 13 of the header, whose numbers cover the whole message.
 fn in_header(s: &[u8], tree: &[u16], payments: usize, total: u64) -> Finding
-    ensures { λ r. ⌜ ((root : Element) (next : ℕ) → Laid (now (s .entry)) (now (tree .entry)) root 0 next → ReadCount (of-header 6 root) → ReadMoney (of-header 7 root) → refusal-found r ≡ header-refusal payments total root) ⌝ }
+    ensures { λ r. ⌜ ((root : Element) (next : ℕ) → Laid (now (s .entry)) (now (tree .entry)) root 0 next → ReadCount (of-header 6 root) → ReadMoney (of-header 7 root)
+        → refusal-found r ≡ header-refusal payments total root) ⌝ }
 {
     let stated_count = routes::follow3(s, tree, 0, b"CstmrCdtTrfInitn", b"GrpHdr", b"NbOfTxs");
     let count_found = count_is(s, tree, stated_count, 6, payments);
@@ -162,7 +167,9 @@ pub fn counts(
     payments: usize,
     total: u64,
 ) -> Finding
-    ensures { λ r. ⌜ ((root : Element) (next : ℕ) → Laid (now (s .entry)) (now (tree .entry)) root 0 next → Ordered (now (s .entry)) (now (tree .entry)) (now (out .entry)) root → blocks ≡ length (all-blocks root) → payments ≡ length (all-payments root) → payments ≤ 64 → total ≡ total-of root → Readable root → refusal-found r ≡ counts-refusal root) ⌝ }
+    ensures { λ r. ⌜ ((root : Element) (next : ℕ) → Laid (now (s .entry)) (now (tree .entry)) root 0 next
+        → Ordered (now (s .entry)) (now (tree .entry)) (now (out .entry)) root → blocks ≡ length (all-blocks root) → payments ≡ length (all-payments root) → payments ≤ 64
+        → total ≡ total-of root → Readable root → refusal-found r ≡ counts-refusal root) ⌝ }
 {
     let header = in_header(s, tree, payments, total);
     let each = in_blocks(s, tree, out, blocks, payments);

@@ -12,7 +12,9 @@ ghost use Rattle.routes.specs.Finds.{Finds, along};
 
 // Field 7: the BIC of the debtor's agent, or its other id.
 fn debtor_agent(s: &[u8], tree: &[u16], block: usize) -> Found
-    ensures { λ r. ⌜ ((t : Element) (next : ℕ) → Laid (now (s .entry)) (now (tree .entry)) t block next → Finds (now (s .entry)) (now (tree .entry)) (either-of (along (bytes "DbtrAgt" ∷ bytes "FinInstnId" ∷ bytes "BICFI" ∷ []) (some t)) (along (bytes "DbtrAgt" ∷ bytes "FinInstnId" ∷ bytes "Othr" ∷ bytes "Id" ∷ []) (some t))) r) ⌝ }
+    ensures { λ r. ⌜ ((t : Element) (next : ℕ) → Laid (now (s .entry)) (now (tree .entry)) t block next
+        → Finds (now (s .entry)) (now (tree .entry)) (either-of (along (bytes "DbtrAgt" ∷ bytes "FinInstnId" ∷ bytes "BICFI" ∷ []) (some t))
+        (along (bytes "DbtrAgt" ∷ bytes "FinInstnId" ∷ bytes "Othr" ∷ bytes "Id" ∷ []) (some t))) r) ⌝ }
 {
     let found = routes::follow3(s, tree, block, b"DbtrAgt", b"FinInstnId", b"BICFI");
     match found {
@@ -31,7 +33,9 @@ fn debtor_agent(s: &[u8], tree: &[u16], block: usize) -> Found
 
 // Field 17: the free text, or the reference.
 fn remittance(s: &[u8], tree: &[u16], own: usize) -> Found
-    ensures { λ r. ⌜ ((t : Element) (next : ℕ) → Laid (now (s .entry)) (now (tree .entry)) t own next → Finds (now (s .entry)) (now (tree .entry)) (either-of (along (bytes "RmtInf" ∷ bytes "Ustrd" ∷ []) (some t)) (along (bytes "RmtInf" ∷ bytes "Strd" ∷ bytes "CdtrRefInf" ∷ bytes "Ref" ∷ []) (some t))) r) ⌝ }
+    ensures { λ r. ⌜ ((t : Element) (next : ℕ) → Laid (now (s .entry)) (now (tree .entry)) t own next
+        → Finds (now (s .entry)) (now (tree .entry)) (either-of (along (bytes "RmtInf" ∷ bytes "Ustrd" ∷ []) (some t))
+        (along (bytes "RmtInf" ∷ bytes "Strd" ∷ bytes "CdtrRefInf" ∷ bytes "Ref" ∷ []) (some t))) r) ⌝ }
 {
     let found = routes::follow2(s, tree, own, b"RmtInf", b"Ustrd");
     match found {

@@ -29,7 +29,8 @@ fn put(table: &mut [u8], at: usize, n: u32)
 
 // So many numbers from the table's start on; every later byte stays.
 fn write(numbers: &[u32], many: usize, table: &mut [u8])
-    ensures { λ _. ⌜ (many ≤ length (now (numbers .entry)) → 4 * many ≤ length (now (table .entry)) → now (table .exit) ≡ each four-bytes (take many (now (numbers .entry))) ++ drop (4 * many) (now (table .entry))) ⌝ }
+    ensures { λ _. ⌜ (many ≤ length (now (numbers .entry)) → 4 * many ≤ length (now (table .entry))
+        → now (table .exit) ≡ each four-bytes (take many (now (numbers .entry))) ++ drop (4 * many) (now (table .entry))) ⌝ }
 {
     let mut i = 0;
     while i < many {

@@ -17,7 +17,8 @@ ghost use Rattle.ids.specs.Ids.{with-id, with-ids, id-refusal};
 
 // The block at element `block` has the id that element `id` holds.
 fn has_id(s: &[u8], tree: &[u16], block: usize, id: usize) -> bool
-    ensures { λ r. ⌜ ((b t : Element) (m n : ℕ) → Laid (now (s .entry)) (now (tree .entry)) b block m → Laid (now (s .entry)) (now (tree .entry)) t id n → r ≡ among-texts (text-of t) (with-id [] (child 11 b))) ⌝ }
+    ensures { λ r. ⌜ ((b t : Element) (m n : ℕ) → Laid (now (s .entry)) (now (tree .entry)) b block m → Laid (now (s .entry)) (now (tree .entry)) t id n
+        → r ≡ among-texts (text-of t) (with-id [] (child 11 b))) ⌝ }
 {
     let found = routes::child(s, tree, block, b"PmtInfId");
     let Found::At(i) = found else {
@@ -28,7 +29,8 @@ fn has_id(s: &[u8], tree: &[u16], block: usize, id: usize) -> bool
 
 // One of the first k blocks has the id that element `id` holds.
 fn among_earlier(s: &[u8], tree: &[u16], out: &[u16], k: usize, id: usize) -> bool
-    ensures { λ r. ⌜ ((bs : List Element) (t : Element) (n : ℕ) → BlocksAt (now (s .entry)) (now (tree .entry)) (now (out .entry)) 0 bs → k ≡ length bs → Laid (now (s .entry)) (now (tree .entry)) t id n → r ≡ among-texts (text-of t) (with-ids [] bs)) ⌝ }
+    ensures { λ r. ⌜ ((bs : List Element) (t : Element) (n : ℕ) → BlocksAt (now (s .entry)) (now (tree .entry)) (now (out .entry)) 0 bs → k ≡ length bs
+        → Laid (now (s .entry)) (now (tree .entry)) t id n → r ≡ among-texts (text-of t) (with-ids [] bs)) ⌝ }
 {
     let mut j = 0;
     while j < k {
@@ -42,7 +44,8 @@ fn among_earlier(s: &[u8], tree: &[u16], out: &[u16], k: usize, id: usize) -> bo
 
 // 11 at block k.
 fn id_at(s: &[u8], tree: &[u16], out: &[u16], k: usize) -> Finding
-    ensures { λ r. ⌜ ((bs : List Element) (b : Element) (n : ℕ) → BlocksAt (now (s .entry)) (now (tree .entry)) (now (out .entry)) 0 bs → k ≡ length bs → Laid (now (s .entry)) (now (tree .entry)) b (getD (now (out .entry)) k 0) n → refusal-found r ≡ id-refusal (with-ids [] bs) b) ⌝ }
+    ensures { λ r. ⌜ ((bs : List Element) (b : Element) (n : ℕ) → BlocksAt (now (s .entry)) (now (tree .entry)) (now (out .entry)) 0 bs → k ≡ length bs
+        → Laid (now (s .entry)) (now (tree .entry)) b (getD (now (out .entry)) k 0) n → refusal-found r ≡ id-refusal (with-ids [] bs) b) ⌝ }
 {
     let found = routes::child(s, tree, tree::number(out, k), b"PmtInfId");
     let Found::At(id) = found else {
@@ -58,7 +61,8 @@ fn id_at(s: &[u8], tree: &[u16], out: &[u16], k: usize) -> Finding
 
 // 11: a block id equal, byte for byte, to an earlier block's.
 pub fn ids(s: &[u8], tree: &[u16], out: &[u16], blocks: usize) -> Finding
-    ensures { λ r. ⌜ ((root : Element) → Ordered (now (s .entry)) (now (tree .entry)) (now (out .entry)) root → blocks ≡ length (all-blocks root) → refusal-found r ≡ ids-refusal root) ⌝ }
+    ensures { λ r. ⌜ ((root : Element) → Ordered (now (s .entry)) (now (tree .entry)) (now (out .entry)) root → blocks ≡ length (all-blocks root)
+        → refusal-found r ≡ ids-refusal root) ⌝ }
 {
     let mut k = 0;
     while k < blocks {

@@ -1,6 +1,6 @@
 -- Where the elements of a message lie, by the first bytes that end each part: a name ends at the first space or `>`, a start tag at the first `>` from there
--- on, and what stands before an element or an end tag at the first `<`; an end tag is as long as its name and three bytes more. The pass that lays the tree out is proved against this. Bytes are numbers: 60 is `<`, 62 `>`,
--- 47 `/`, 63 `?`, 32 a space.
+-- on, and what stands before an element or an end tag at the first `<`; an end tag is as long as its name and three bytes more. The pass that lays the tree out is
+-- proved against this. Bytes are numbers: 60 is `<`, 62 `>`, 47 `/`, 63 `?`, 32 a space.
 use Prim.Native.Nat.{ℕ, _+_, _*_, _≤_, _<_}
 use mathlib.Core.List.{List}
 use mathlib.Core.Path.{_≡_}

@@ -151,7 +151,8 @@ fn root_at(s: &[u8]) -> usize
 // Lays out the tree of a message of the form, and says how many elements it has; 0 where the message is longer than 32,768 bytes, or the buffer
 // shorter than five numbers for each of the 10,923 elements that such a message may hold.
 pub fn lay(s: &[u8], tree: &mut [u16]) -> usize
-    ensures laid { λ r. ⌜ ((root : Element) → IsMessage (now (s .entry)) root → length (now (s .entry)) ≤ 32768 → 54615 ≤ length (now (tree .entry)) → Laid (now (s .entry)) (now (tree .exit)) root 0 r) ⌝ }
+    ensures laid { λ r. ⌜ ((root : Element) → IsMessage (now (s .entry)) root → length (now (s .entry)) ≤ 32768 → 54615 ≤ length (now (tree .entry))
+        → Laid (now (s .entry)) (now (tree .exit)) root 0 r) ⌝ }
     ensures as_long { λ _. ⌜ length (now (tree .exit)) ≡ length (now (tree .entry)) ⌝ }
 {
     if 32768 < s.len() {

@@ -34,7 +34,8 @@ fn differing_pair(
     order2: &[u16],
     k: usize,
 ) -> Field
-    ensures { λ r. ⌜ (o < 64 → k < 64 → (p q : Payment) → PaymentAt (now (s1 .entry)) (now (tree1 .entry)) (now (order1 .entry)) o p → ReadMoney (amount-in p) → PaymentAt (now (s2 .entry)) (now (tree2 .entry)) (now (order2 .entry)) k q → ReadMoney (amount-in q) → lowest r ≡ differ-from 1 (values-of p) (values-of q)) ⌝ }
+    ensures { λ r. ⌜ (o < 64 → k < 64 → (p q : Payment) → PaymentAt (now (s1 .entry)) (now (tree1 .entry)) (now (order1 .entry)) o p → ReadMoney (amount-in p)
+        → PaymentAt (now (s2 .entry)) (now (tree2 .entry)) (now (order2 .entry)) k q → ReadMoney (amount-in q) → lowest r ≡ differ-from 1 (values-of p) (values-of q)) ⌝ }
 {
     if 64 <= o {
         return Field::Same;
@@ -60,7 +61,9 @@ pub fn pairing(
     list: &[u8],
     payments: usize,
 ) -> Paired
-    ensures { λ r. ⌜ ((root1 root2 : Element) (ks : List ℕ) → InOrder (now (s1 .entry)) (now (tree1 .entry)) (now (order1 .entry)) payments root1 → InOrder (now (s2 .entry)) (now (tree2 .entry)) (now (order2 .entry)) payments root2 → ordinals-of (now (list .entry)) ≡ some ks → length ks ≡ payments → pairs-say r ≡ pairing (all-values root1) 0 [] ks (all-values root2)) ⌝ }
+    ensures { λ r. ⌜ ((root1 root2 : Element) (ks : List ℕ) → InOrder (now (s1 .entry)) (now (tree1 .entry)) (now (order1 .entry)) payments root1
+        → InOrder (now (s2 .entry)) (now (tree2 .entry)) (now (order2 .entry)) payments root2 → ordinals-of (now (list .entry)) ≡ some ks → length ks ≡ payments
+        → pairs-say r ≡ pairing (all-values root1) 0 [] ks (all-values root2)) ⌝ }
 {
     let mut marks = [0u8; 64];
     let mut k = 0;

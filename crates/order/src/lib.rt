@@ -33,7 +33,8 @@ fn put(out: &mut [u16], k: usize, x: usize)
 
 // The three numbers of payment k.
 fn put_payment(out: &mut [u16], k: usize, own: usize, block: usize, number: usize)
-    ensures { λ r. ⌜ (k < 64 → own < 65536 → block < 65536 → number < 65536 → now (out .exit) ≡ set (set (set (now (out .entry)) (16 + 3 * k) own) (17 + 3 * k) block) (18 + 3 * k) number) ⌝ }
+    ensures { λ r. ⌜ (k < 64 → own < 65536 → block < 65536 → number < 65536
+        → now (out .exit) ≡ set (set (set (now (out .entry)) (16 + 3 * k) own) (17 + 3 * k) block) (18 + 3 * k) number) ⌝ }
 {
     if 64 <= k {
         return;
@@ -45,26 +46,32 @@ fn put_payment(out: &mut [u16], k: usize, own: usize, block: usize, number: usiz
 
 // The block after a block, the first payment of a block, and the payment after a payment; where there is none, the end of what holds them.
 fn next_block(s: &[u8], tree: &[u16], block: usize, stop: usize) -> usize
-    ensures { λ r. ⌜ (block < stop → block < r) × ((t : Element) (ts : Elements) (next : ℕ) → Laid (now (s .entry)) (now (tree .entry)) t block next → LaidAll (now (s .entry)) (now (tree .entry)) ts next stop → Next (now (s .entry)) (now (tree .entry)) (bytes "PmtInf") (with-name (bytes "PmtInf") (listed ts)) r stop) ⌝ }
+    ensures { λ r. ⌜ (block < stop → block < r)
+        × ((t : Element) (ts : Elements) (next : ℕ) → Laid (now (s .entry)) (now (tree .entry)) t block next → LaidAll (now (s .entry)) (now (tree .entry)) ts next stop
+        → Next (now (s .entry)) (now (tree .entry)) (bytes "PmtInf") (with-name (bytes "PmtInf") (listed ts)) r stop) ⌝ }
 {
     routes::next_in(s, tree, block, stop, b"PmtInf")
 }
 
 fn first_payment(s: &[u8], tree: &[u16], block: usize) -> usize
-    ensures { λ r. ⌜ ((t : Element) (next : ℕ) → Laid (now (s .entry)) (now (tree .entry)) t block next → Next (now (s .entry)) (now (tree .entry)) (bytes "CdtTrfTxInf") (with-name (bytes "CdtTrfTxInf") (children t)) r next) ⌝ }
+    ensures { λ r. ⌜ ((t : Element) (next : ℕ) → Laid (now (s .entry)) (now (tree .entry)) t block next
+        → Next (now (s .entry)) (now (tree .entry)) (bytes "CdtTrfTxInf") (with-name (bytes "CdtTrfTxInf") (children t)) r next) ⌝ }
 {
     routes::first_in(s, tree, block, b"CdtTrfTxInf")
 }
 
 fn next_payment(s: &[u8], tree: &[u16], own: usize, stop: usize) -> usize
-    ensures { λ r. ⌜ (own < stop → own < r) × ((t : Element) (ts : Elements) (next : ℕ) → Laid (now (s .entry)) (now (tree .entry)) t own next → LaidAll (now (s .entry)) (now (tree .entry)) ts next stop → Next (now (s .entry)) (now (tree .entry)) (bytes "CdtTrfTxInf") (with-name (bytes "CdtTrfTxInf") (listed ts)) r stop) ⌝ }
+    ensures { λ r. ⌜ (own < stop → own < r)
+        × ((t : Element) (ts : Elements) (next : ℕ) → Laid (now (s .entry)) (now (tree .entry)) t own next → LaidAll (now (s .entry)) (now (tree .entry)) ts next stop
+        → Next (now (s .entry)) (now (tree .entry)) (bytes "CdtTrfTxInf") (with-name (bytes "CdtTrfTxInf") (listed ts)) r stop) ⌝ }
 {
     routes::next_in(s, tree, own, stop, b"CdtTrfTxInf")
 }
 
 // Refusal 5, and where the blocks and payments stand (specs/Ordered.antt).
 pub fn order(s: &[u8], tree: &[u16], out: &mut [u16]) -> Limits
-    ensures { λ r. ⌜ Few r × ((root : Element) (next : ℕ) → Laid (now (s .entry)) (now (tree .entry)) root 0 next → Limited (now (s .entry)) (now (tree .entry)) (now (out .exit)) root r) ⌝ }
+    ensures { λ r. ⌜ Few r × ((root : Element) (next : ℕ) → Laid (now (s .entry)) (now (tree .entry)) root 0 next
+        → Limited (now (s .entry)) (now (tree .entry)) (now (out .exit)) root r) ⌝ }
 {
     let top = routes::child(s, tree, 0, b"CstmrCdtTrfInitn");
     let Found::At(initiation) = top else {

@@ -29,7 +29,8 @@ pub fn field_in<'a>(
     k: usize,
     field: usize,
 ) -> &'a [u8]
-    ensures { λ r. ⌜ ((root : Element) → Ordered (now (message .entry)) (now (tree .entry)) (now (order .entry)) root → k < length (all-payments root) → k < 64 → HandsBack (message .entry) r (field-of (all-payments root) k field)) ⌝ }
+    ensures { λ r. ⌜ ((root : Element) → Ordered (now (message .entry)) (now (tree .entry)) (now (order .entry)) root → k < length (all-payments root) → k < 64
+        → HandsBack (message .entry) r (field-of (all-payments root) k field)) ⌝ }
 {
     if 64 <= k {
         return &message[0..0];

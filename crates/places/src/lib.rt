@@ -177,7 +177,8 @@ fn seek(
 ) -> Sought
     ensures { λ r. ⌜ ((profile : List Row) (parent : ℕ) (h : Head) (next : ℕ) → ResolvedBetween profile (now (names .entry)) (now (rows .entry)) (now (places .entry)) parent from to
         → Entry (now (s .entry)) (now (tree .entry)) i h next
-        → Seeks profile (now (names .entry)) (now (rows .entry)) (now (places .entry)) parent (h .name) (from-here (places-between (now (rows .entry)) (now (places .entry)) from to)) from to r) ⌝ }
+        → Seeks profile (now (names .entry)) (now (rows .entry)) (now (places .entry)) parent (h .name)
+        (from-here (places-between (now (rows .entry)) (now (places .entry)) from to)) from to r) ⌝ }
 {
     let standing = find(s, tree, names, rows, places, i, from, to);
     let Standing::At { place, entry } = standing else {

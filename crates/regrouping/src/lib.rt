@@ -36,7 +36,9 @@ fn listed(
     many2: usize,
     list: &[u8],
 ) -> Regrouping
-    ensures { λ r. ⌜ ((root1 root2 : Element) → InOrder (now (first .entry)) (now (tree1 .entry)) (now (order1 .entry)) many1 root1 → InOrder (now (second .entry)) (now (tree2 .entry)) (now (order2 .entry)) many2 root2 → regrouping-says r ≡ of-payments (all-values root1) (all-values root2) (now (list .entry))) ⌝ }
+    ensures { λ r. ⌜ ((root1 root2 : Element) → InOrder (now (first .entry)) (now (tree1 .entry)) (now (order1 .entry)) many1 root1
+        → InOrder (now (second .entry)) (now (tree2 .entry)) (now (order2 .entry)) many2 root2
+        → regrouping-says r ≡ of-payments (all-values root1) (all-values root2) (now (list .entry))) ⌝ }
 {
     if many1 != many2 {
         return Regrouping::NumbersOfPaymentsDiffer;
@@ -62,7 +64,8 @@ fn with_second(
     second: &[u8],
     list: &[u8],
 ) -> Regrouping
-    ensures { λ r. ⌜ ((root1 : Element) → InOrder (now (first .entry)) (now (tree1 .entry)) (now (order1 .entry)) many1 root1 → regrouping-says r ≡ of-outcomes (accepted-with root1) (outcome-alone rows (now (second .entry))) (now (list .entry))) ⌝ }
+    ensures { λ r. ⌜ ((root1 : Element) → InOrder (now (first .entry)) (now (tree1 .entry)) (now (order1 .entry)) many1 root1
+        → regrouping-says r ≡ of-outcomes (accepted-with root1) (outcome-alone rows (now (second .entry))) (now (list .entry))) ⌝ }
 {
     let mut tree2 = [0u16; 54615];
     let mut order2 = [0u16; 208];

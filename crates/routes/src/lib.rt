@@ -15,7 +15,8 @@ pub enum Found {
 
 // Of the elements from i up to `stop`, the first of this name; `stop` where there is none.
 fn next_named(s: &[u8], tree: &[u16], i: usize, stop: usize, name: &[u8]) -> usize
-    ensures { λ r. ⌜ (i ≤ r) × ((ts : Elements) → LaidAll (now (s .entry)) (now (tree .entry)) ts i stop → Next (now (s .entry)) (now (tree .entry)) (now (name .entry)) (with-name (now (name .entry)) (listed ts)) r stop) ⌝ }
+    ensures { λ r. ⌜ (i ≤ r) × ((ts : Elements) → LaidAll (now (s .entry)) (now (tree .entry)) ts i stop
+        → Next (now (s .entry)) (now (tree .entry)) (now (name .entry)) (with-name (now (name .entry)) (listed ts)) r stop) ⌝ }
 {
     let mut at = i;
     while at < stop {
@@ -33,7 +34,8 @@ fn next_named(s: &[u8], tree: &[u16], i: usize, stop: usize, name: &[u8]) -> usi
 
 // The first child of element i that has this name; the end of the element where there is none.
 pub fn first_in(s: &[u8], tree: &[u16], i: usize, name: &[u8]) -> usize
-    ensures { λ r. ⌜ ((t : Element) (next : ℕ) → Laid (now (s .entry)) (now (tree .entry)) t i next → Next (now (s .entry)) (now (tree .entry)) (now (name .entry)) (with-name (now (name .entry)) (children t)) r next) ⌝ }
+    ensures { λ r. ⌜ ((t : Element) (next : ℕ) → Laid (now (s .entry)) (now (tree .entry)) t i next
+        → Next (now (s .entry)) (now (tree .entry)) (now (name .entry)) (with-name (now (name .entry)) (children t)) r next) ⌝ }
 {
     let stop = tree::cell(tree, i, 4);
     if stop <= i {
@@ -44,7 +46,9 @@ pub fn first_in(s: &[u8], tree: &[u16], i: usize, name: &[u8]) -> usize
 
 // Of the elements after element i up to `stop`, the first of this name; `stop` where there is none.
 pub fn next_in(s: &[u8], tree: &[u16], i: usize, stop: usize, name: &[u8]) -> usize
-    ensures { λ r. ⌜ (i < stop → i < r) × ((t : Element) (ts : Elements) (next : ℕ) → Laid (now (s .entry)) (now (tree .entry)) t i next → LaidAll (now (s .entry)) (now (tree .entry)) ts next stop → Next (now (s .entry)) (now (tree .entry)) (now (name .entry)) (with-name (now (name .entry)) (listed ts)) r stop) ⌝ }
+    ensures { λ r. ⌜ (i < stop → i < r)
+        × ((t : Element) (ts : Elements) (next : ℕ) → Laid (now (s .entry)) (now (tree .entry)) t i next → LaidAll (now (s .entry)) (now (tree .entry)) ts next stop
+        → Next (now (s .entry)) (now (tree .entry)) (now (name .entry)) (with-name (now (name .entry)) (listed ts)) r stop) ⌝ }
 {
     let next = tree::cell(tree, i, 4);
     if next <= i {

@@ -124,7 +124,8 @@ fn currency(s: &[u8], at: usize) -> Scan
 
 // A start tag behind its name.
 pub fn tag_end(s: &[u8], name: &[u8], at: usize) -> Scan
-    ensures { λ r. ⌜ (at < length (now (s .entry)) → letter-or-digit (getD (now (s .entry)) at 0) ≡ false → (depth lt room : ℕ) → Opened (now (s .entry)) at (now (name .entry)) depth (naming depth lt (now (name .entry)) room) r) ⌝ }
+    ensures { λ r. ⌜ (at < length (now (s .entry)) → letter-or-digit (getD (now (s .entry)) at 0) ≡ false → (depth lt room : ℕ)
+        → Opened (now (s .entry)) at (now (name .entry)) depth (naming depth lt (now (name .entry)) room) r) ⌝ }
 {
     if s.len() <= at {
         return Scan::StopsAt(at);

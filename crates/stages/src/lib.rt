@@ -20,7 +20,10 @@ ghost use Rattle.stages.specs.Decided.{Passes, Decided};
 
 // 21, then 12 and 13.
 fn sums(s: &[u8], tree: &[u16], order: &[u16], blocks: usize, payments: usize) -> Verdict
-    ensures { λ r. ⌜ ((root : Element) (next : ℕ) → Laid (now (s .entry)) (now (tree .entry)) root 0 next → Ordered (now (s .entry)) (now (tree .entry)) (now (order .entry)) root → blocks ≡ length (all-blocks root) → payments ≡ length (all-payments root) → payments ≤ 64 → values-refusal rows root ≡ none → blocks ≤ 16 → Passes (now (s .entry)) (now (tree .entry)) (now (order .entry)) root (total-refusal root or-else counts-refusal root) r) ⌝ }
+    ensures { λ r. ⌜ ((root : Element) (next : ℕ) → Laid (now (s .entry)) (now (tree .entry)) root 0 next
+        → Ordered (now (s .entry)) (now (tree .entry)) (now (order .entry)) root → blocks ≡ length (all-blocks root) → payments ≡ length (all-payments root)
+        → payments ≤ 64 → values-refusal rows root ≡ none → blocks ≤ 16
+        → Passes (now (s .entry)) (now (tree .entry)) (now (order .entry)) root (total-refusal root or-else counts-refusal root) r) ⌝ }
 {
     let total = totals::total_cents(s, tree, order, payments);
     match total {
@@ -48,7 +51,10 @@ fn judged(
     payments: usize,
     values: Finding,
 ) -> Verdict
-    ensures { λ r. ⌜ ((root : Element) (next : ℕ) → Laid (now (s .entry)) (now (tree .entry)) root 0 next → refusal-found values ≡ values-refusal rows root → Ordered (now (s .entry)) (now (tree .entry)) (now (order .entry)) root → blocks ≡ length (all-blocks root) → payments ≡ length (all-payments root) → payments ≤ 64 → blocks ≤ 16 → Passes (now (s .entry)) (now (tree .entry)) (now (order .entry)) root (values-refusal rows root or-else usage-refusal root or-else ids-refusal root or-else total-refusal root or-else counts-refusal root) r) ⌝ }
+    ensures { λ r. ⌜ ((root : Element) (next : ℕ) → Laid (now (s .entry)) (now (tree .entry)) root 0 next → refusal-found values ≡ values-refusal rows root
+        → Ordered (now (s .entry)) (now (tree .entry)) (now (order .entry)) root → blocks ≡ length (all-blocks root) → payments ≡ length (all-payments root)
+        → payments ≤ 64 → blocks ≤ 16 → Passes (now (s .entry)) (now (tree .entry)) (now (order .entry)) root
+        (values-refusal rows root or-else usage-refusal root or-else ids-refusal root or-else total-refusal root or-else counts-refusal root) r) ⌝ }
 {
     if let Finding::Refused(fault) = values {
         return Verdict::Refused(fault);
@@ -66,7 +72,9 @@ fn judged(
 
 // 5, and what follows.
 fn limited(s: &[u8], tree: &[u16], order: &mut [u16], values: Finding) -> Verdict
-    ensures { λ r. ⌜ ((root : Element) (next : ℕ) → Laid (now (s .entry)) (now (tree .entry)) root 0 next → 208 ≤ length (now (order .entry)) → rows-refusal rows root ≡ none → refusal-found values ≡ values-refusal rows root → Passes (now (s .entry)) (now (tree .entry)) (now (order .exit)) root (tree-refusal rows root) r) ⌝ }
+    ensures { λ r. ⌜ ((root : Element) (next : ℕ) → Laid (now (s .entry)) (now (tree .entry)) root 0 next → 208 ≤ length (now (order .entry))
+        → rows-refusal rows root ≡ none → refusal-found values ≡ values-refusal rows root
+        → Passes (now (s .entry)) (now (tree .entry)) (now (order .exit)) root (tree-refusal rows root) r) ⌝ }
 {
     let limits = order::order(s, tree, order);
     match limits {
@@ -86,7 +94,8 @@ fn of_rows(fault: Fault) -> bool
 // 3 and 4, and what follows. The walk for 6 to 8 finds those of 3 and 4 as well. What it finds of 6 to 8 waits until another walk has found none of 3 and 4,
 // which come first wherever they stand.
 fn stages(s: &[u8], tree: &[u16], order: &mut [u16]) -> Verdict
-    ensures { λ r. ⌜ ((root : Element) (next : ℕ) → Laid (now (s .entry)) (now (tree .entry)) root 0 next → 208 ≤ length (now (order .entry)) → Passes (now (s .entry)) (now (tree .entry)) (now (order .exit)) root (tree-refusal rows root) r) ⌝ }
+    ensures { λ r. ⌜ ((root : Element) (next : ℕ) → Laid (now (s .entry)) (now (tree .entry)) root 0 next → 208 ≤ length (now (order .entry))
+        → Passes (now (s .entry)) (now (tree .entry)) (now (order .exit)) root (tree-refusal rows root) r) ⌝ }
 {
     let values = rows::check(s, tree, true);
     match values {

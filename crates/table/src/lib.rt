@@ -51,7 +51,8 @@ pub fn span_of(tree: &[u16], found: Found) -> Span
 }
 
 fn spans_of(s: &[u8], tree: &[u16], own: usize, block: usize) -> Spans
-    ensures { λ r. ⌜ ((p : Payment) (m n : ℕ) → Laid (now (s .entry)) (now (tree .entry)) (p .own) own m → Laid (now (s .entry)) (now (tree .entry)) (p .block) block n → SpansOf (now (s .entry)) p r) ⌝ }
+    ensures { λ r. ⌜ ((p : Payment) (m n : ℕ) → Laid (now (s .entry)) (now (tree .entry)) (p .own) own m → Laid (now (s .entry)) (now (tree .entry)) (p .block) block n
+        → SpansOf (now (s .entry)) p r) ⌝ }
 {
     let id = span_of(tree, fields::field_at(s, tree, own, block, 10));
     let creditor = span_of(tree, fields::field_at(s, tree, own, block, 14));
@@ -71,7 +72,9 @@ fn spans_of(s: &[u8], tree: &[u16], own: usize, block: usize) -> Spans
 
 // The sixteen numbers, each of 32 bits.
 fn row(number: usize, of: Spans, cents: u64, at: usize) -> [u32; 16]
-    ensures { λ r. ⌜ r ≡ number % 4294967296 ∷ of .id .start % 4294967296 ∷ of .id .size % 4294967296 ∷ of .creditor .start % 4294967296 ∷ of .creditor .size % 4294967296 ∷ of .name .start % 4294967296 ∷ of .name .size % 4294967296 ∷ of .ultimate .start % 4294967296 ∷ of .ultimate .size % 4294967296 ∷ of .kind .start % 4294967296 ∷ of .kind .size % 4294967296 ∷ of .debtor .start % 4294967296 ∷ of .debtor .size % 4294967296 ∷ cents / 100 % 4294967296 ∷ cents % 100 ∷ at % 4294967296 ∷ [] ⌝ }
+    ensures { λ r. ⌜ r ≡ number % 4294967296 ∷ of .id .start % 4294967296 ∷ of .id .size % 4294967296 ∷ of .creditor .start % 4294967296 ∷ of .creditor .size % 4294967296
+        ∷ of .name .start % 4294967296 ∷ of .name .size % 4294967296 ∷ of .ultimate .start % 4294967296 ∷ of .ultimate .size % 4294967296 ∷ of .kind .start % 4294967296
+        ∷ of .kind .size % 4294967296 ∷ of .debtor .start % 4294967296 ∷ of .debtor .size % 4294967296 ∷ cents / 100 % 4294967296 ∷ cents % 100 ∷ at % 4294967296 ∷ [] ⌝ }
 {
     [
         (number % 4294967296) as u32,
@@ -112,7 +115,8 @@ fn put(table: &mut [u32], at: usize, numbers: [u32; 16])
 
 // The sixteen numbers of the payment `own` in its block.
 fn numbers_of(s: &[u8], tree: &[u16], own: usize, block: usize, number: usize) -> [u32; 16]
-    ensures { λ r. ⌜ (length (now (s .entry)) ≤ 32768 → (p : Payment) (m n : ℕ) → Laid (now (s .entry)) (now (tree .entry)) (p .own) own m → Laid (now (s .entry)) (now (tree .entry)) (p .block) block n → Fitting p → number ≡ p .block-number → r ≡ numbers-of p) ⌝ }
+    ensures { λ r. ⌜ (length (now (s .entry)) ≤ 32768 → (p : Payment) (m n : ℕ) → Laid (now (s .entry)) (now (tree .entry)) (p .own) own m
+        → Laid (now (s .entry)) (now (tree .entry)) (p .block) block n → Fitting p → number ≡ p .block-number → r ≡ numbers-of p) ⌝ }
 {
     let of = spans_of(s, tree, own, block);
     let cents = totals::amount(s, tree, own);
@@ -121,7 +125,9 @@ fn numbers_of(s: &[u8], tree: &[u16], own: usize, block: usize, number: usize) -
 
 // Each payment's numbers, in the order of the payments; every later number stays.
 pub fn fill(s: &[u8], tree: &[u16], order: &[u16], many: usize, table: &mut [u32])
-    ensures { λ r. ⌜ (length (now (s .entry)) ≤ 32768 → (root : Element) → Ordered (now (s .entry)) (now (tree .entry)) (now (order .entry)) root → many ≡ length (payments root) → many ≤ 64 → All Fitting (payments root) → 1024 ≤ length (now (table .entry)) → now (table .exit) ≡ each numbers-of (payments root) ++ drop (16 * length (payments root)) (now (table .entry))) ⌝ }
+    ensures { λ r. ⌜ (length (now (s .entry)) ≤ 32768 → (root : Element) → Ordered (now (s .entry)) (now (tree .entry)) (now (order .entry)) root
+        → many ≡ length (payments root) → many ≤ 64 → All Fitting (payments root) → 1024 ≤ length (now (table .entry))
+        → now (table .exit) ≡ each numbers-of (payments root) ++ drop (16 * length (payments root)) (now (table .entry))) ⌝ }
 {
     let mut k = 0;
     while k < many {

@@ -48,7 +48,8 @@ fn own_at(out: &[u16], k: usize) -> usize
 
 // The sum of the amounts of the payments from one up to another.
 pub fn sum_of(s: &[u8], tree: &[u16], out: &[u16], from: usize, to: usize) -> Sum
-    ensures { λ r. ⌜ ((ps : List Payment) → PaymentsAt (now (s .entry)) (now (tree .entry)) (now (out .entry)) from ps → to ≡ from + length ps → to ≤ 64 → All ReadPayment ps → Sums (sum-of (map (λ p. p .own) ps)) r) ⌝ }
+    ensures { λ r. ⌜ ((ps : List Payment) → PaymentsAt (now (s .entry)) (now (tree .entry)) (now (out .entry)) from ps → to ≡ from + length ps → to ≤ 64
+        → All ReadPayment ps → Sums (sum-of (map (λ p. p .own) ps)) r) ⌝ }
 {
     let mut sum: u64 = 0;
     let mut k = from;
@@ -76,7 +77,9 @@ fn header_sum_at(s: &[u8], tree: &[u16]) -> usize
 
 // 21: the total of the amounts, where it is not above 64 bits.
 pub fn total_cents(s: &[u8], tree: &[u16], out: &[u16], payments: usize) -> Total
-    ensures { λ r. ⌜ ((root : Element) (next : ℕ) → Laid (now (s .entry)) (now (tree .entry)) root 0 next → Ordered (now (s .entry)) (now (tree .entry)) (now (out .entry)) root → payments ≡ length (all-payments root) → payments ≤ 64 → Readable root → Totals root r) ⌝ }
+    ensures { λ r. ⌜ ((root : Element) (next : ℕ) → Laid (now (s .entry)) (now (tree .entry)) root 0 next
+        → Ordered (now (s .entry)) (now (tree .entry)) (now (out .entry)) root → payments ≡ length (all-payments root) → payments ≤ 64 → Readable root
+        → Totals root r) ⌝ }
 {
     let sum = sum_of(s, tree, out, 0, payments);
     match sum {

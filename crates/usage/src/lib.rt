@@ -15,7 +15,8 @@ ghost use Rattle.order.specs.Ordered.{Ordered};
 
 // 9: the row of this name stands in the payment `own` and in its block.
 fn in_both(s: &[u8], tree: &[u16], own: usize, block: usize, row: usize, name: &[u8]) -> Finding
-    ensures { λ r. ⌜ ((p : Payment) (m n : ℕ) → Laid (now (s .entry)) (now (tree .entry)) (p .own) own m → Laid (now (s .entry)) (now (tree .entry)) (p .block) block n → now (name .entry) ≡ name-of-row row → refusal-found r ≡ in-both row p) ⌝ }
+    ensures { λ r. ⌜ ((p : Payment) (m n : ℕ) → Laid (now (s .entry)) (now (tree .entry)) (p .own) own m → Laid (now (s .entry)) (now (tree .entry)) (p .block) block n
+        → now (name .entry) ≡ name-of-row row → refusal-found r ≡ in-both row p) ⌝ }
 {
     let mine = routes::child(s, tree, own, name);
     let Found::At(i) = mine else {
@@ -33,7 +34,8 @@ fn in_both(s: &[u8], tree: &[u16], own: usize, block: usize, row: usize, name: &
 
 // 10: row 16 stands in neither.
 fn in_neither(s: &[u8], tree: &[u16], own: usize, block: usize) -> Finding
-    ensures { λ r. ⌜ ((p : Payment) (m n : ℕ) → Laid (now (s .entry)) (now (tree .entry)) (p .own) own m → Laid (now (s .entry)) (now (tree .entry)) (p .block) block n → refusal-found r ≡ in-neither 16 p) ⌝ }
+    ensures { λ r. ⌜ ((p : Payment) (m n : ℕ) → Laid (now (s .entry)) (now (tree .entry)) (p .own) own m → Laid (now (s .entry)) (now (tree .entry)) (p .block) block n
+        → refusal-found r ≡ in-neither 16 p) ⌝ }
 {
     let mine = routes::child(s, tree, own, b"PmtTpInf");
     if let Found::At(_) = mine {
@@ -50,7 +52,8 @@ fn in_neither(s: &[u8], tree: &[u16], own: usize, block: usize) -> Finding
 
 // 9 and 10 of one payment: 16, 36, 34.
 fn in_payment(s: &[u8], tree: &[u16], own: usize, block: usize) -> Finding
-    ensures { λ r. ⌜ ((p : Payment) (m n : ℕ) → Laid (now (s .entry)) (now (tree .entry)) (p .own) own m → Laid (now (s .entry)) (now (tree .entry)) (p .block) block n → refusal-found r ≡ usage-of p) ⌝ }
+    ensures { λ r. ⌜ ((p : Payment) (m n : ℕ) → Laid (now (s .entry)) (now (tree .entry)) (p .own) own m → Laid (now (s .entry)) (now (tree .entry)) (p .block) block n
+        → refusal-found r ≡ usage-of p) ⌝ }
 {
     let types = in_both(s, tree, own, block, 16, b"PmtTpInf");
     let Finding::Nothing = types else {
@@ -69,7 +72,8 @@ fn in_payment(s: &[u8], tree: &[u16], own: usize, block: usize) -> Finding
 
 // 9 and 10: one walk over the payments, in their order.
 pub fn usage(s: &[u8], tree: &[u16], order: &[u16], many: usize) -> Finding
-    ensures { λ r. ⌜ ((root : Element) → Ordered (now (s .entry)) (now (tree .entry)) (now (order .entry)) root → many ≡ length (payments root) → many ≤ 64 → refusal-found r ≡ usage-refusal root) ⌝ }
+    ensures { λ r. ⌜ ((root : Element) → Ordered (now (s .entry)) (now (tree .entry)) (now (order .entry)) root → many ≡ length (payments root) → many ≤ 64
+        → refusal-found r ≡ usage-refusal root) ⌝ }
 {
     let mut k = 0;
     while k < many {
