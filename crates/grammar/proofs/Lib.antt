@@ -4,3 +4,4 @@ pub mod Complete
 pub mod Sound
 pub mod Decides
 pub mod AllBytes
+pub mod InPlace
