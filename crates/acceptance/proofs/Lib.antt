@@ -11,3 +11,4 @@ pub mod Routes
 pub mod Proper
 pub mod Present
 pub mod RightValues
+pub mod Texts

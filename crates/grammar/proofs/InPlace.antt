@@ -1,12 +1,13 @@
 -- The offsets in the tree of a message are true of its bytes: each element stands in the message where its head says, and a text is the bytes that its head tells of.
-use Prim.Native.Nat.{ℕ, suc, _+_, _-_, _≤_, _<_}
-use mathlib.Core.List.{List, [], _∷_, _++_, append-assoc}
+use Prim.Native.Nat.{ℕ, _+_, _-_, _≤_, _<_}
+use mathlib.Core.List.{List, _∷_, _++_, append-assoc}
 use mathlib.Core.Path.{_≡_, refl, sym, ap, subst, _∙_}
 use native.Mathlib.Omega.{arith}
 use lib.ListN.{length, take, drop, length-append, length-drop}
 use lib.Seq.{drop-drop, take-at, drop-append-seam}
-use Rattle.paper.specs.Bytes.{bytes, white, text-byte, Every}
-use Rattle.paper.specs.Form.{Head, Element, Elements, holding-text, holding-elements, []ᵉ, _∷ᵉ_, root-tag, start-tag, amount-tag, end-tag, IsStartTag, of-root, of-amount, of-any-other, head, IsElement, of-text, of-elements, no-more, one-more, IsMessage, whole}
+use Rattle.paper.specs.Bytes.{bytes, white, Every}
+use Rattle.paper.specs.Form.{Head, Element, Elements, holding-text, holding-elements, []ᵉ, _∷ᵉ_, root-tag, start-tag, amount-tag, end-tag, head}
+use Rattle.paper.specs.Form.{IsStartTag, of-root, of-amount, of-any-other, IsElement, of-text, of-elements, no-more, one-more, IsMessage, whole}
 use Rattle.paper.specs.Rows.{head-of}
 
 -- Both tags of an element stand in the message s where its head says: the start tag from `at` up to `start`, the end tag from `close` on.
