@@ -12,3 +12,4 @@ pub mod Proper
 pub mod Present
 pub mod RightValues
 pub mod Texts
+pub mod Leaves

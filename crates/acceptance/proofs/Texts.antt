@@ -1,19 +1,18 @@
 -- What the payments of a message tell of stands in the message, and the bytes of the part that a leaf holds are its text. This holds of every message of the form, whatever its
 -- rows.
-use Prim.Native.Nat.{ℕ, zero, suc}
-use mathlib.Core.List.{List, [], _∷_, _++_, map}
+use Prim.Native.Nat.{ℕ, suc}
+use mathlib.Core.List.{List, [], _∷_, map}
 use mathlib.Core.Bool.{Bool, true, false}
 use mathlib.Core.Option.{Option, none, some}
-use mathlib.Core.Path.{_≡_, refl, sym, ap, _∙_, subst}
-use lib.ListN.{length, take, drop, getD}
-use Rattle.paper.specs.Bytes.{if_then_else_, bytes, same}
-use Rattle.paper.specs.Form.{Head, Element, Elements, holding-text, holding-elements, IsMessage}
+use mathlib.Core.Path.{_≡_, subst}
+use lib.ListN.{take, drop}
+use Rattle.paper.specs.Bytes.{if_then_else_, same}
+use Rattle.paper.specs.Form.{Head, Element, Elements, holding-text, IsMessage}
 use Rattle.paper.specs.Rows.{name, head-of}
 use Rattle.paper.specs.Payments.{Payment, listed, children, all-named, all-of, child, follow, blocks, payments, payments-of, payments-from, in-payment, in-block, either-of, inherited}
 use Rattle.paper.specs.Table.{part-of, pairs}
-use Rattle.paper.specs.Fields.{Field, plain, or-means, amount-field, remittance, fields, field-element, field-of}
+use Rattle.paper.specs.Fields.{plain, or-means, amount-field, remittance, fields}
 use Rattle.paper.specs.Accepted.{All, all-none, all-more}
-use Rattle.paper.specs.Regrouping.{At, at-first, at-later}
 use Rattle.paper.proofs.Laws.{all-joined, all-map}
 use Rattle.grammar.proofs.InPlace.{InPlace, text-in-place, elements-in-place, AllInPlace, none-in-place, more-in-place, in-place}
 
@@ -147,7 +146,7 @@ module _ {s : List ℕ} (p : Payment) (i : PaymentInPlace s p) where
 pub record PartIsText (s : List ℕ) (o : Option Element) : Type 0 where
   pub bytes-are : (h : Head) (w : List ℕ) → o ≡ some (holding-text h w) → take (part-of o .size) (drop (part-of o .start) s) ≡ w
 
-part-is-text : {s : List ℕ} {o : Option Element} → Stands s o → PartIsText s o
+pub part-is-text : {s : List ℕ} {o : Option Element} → Stands s o → PartIsText s o
 part-is-text {s} {o} i = record { bytes-are = λ h w e. rw e (held (standing i e)) }
   where
     held : {h : Head} {w : List ℕ} → InPlace s (holding-text h w)
@@ -163,31 +162,3 @@ pub parts-are-texts : {s : List ℕ} {root : Element} → IsMessage s root → A
 parts-are-texts m =
     all-map (λ p i. record { of-pairs = all-map (λ o h. part-is-text h) (pairs-stand p i); of-fields = all-map (λ f h. part-is-text h) (fields-stand p i) })
     (payments-in-place m)
-
--- The part of a field, by the payment's and the field's number: its bytes are the text of the leaf that the field has.
-field-stands : {s : List ℕ} (field : ℕ) {p : Payment} → PaymentInPlace s p → Stands s (field-element field p)
-unfolding field-element
-field-stands {s} field {p} i = picked field (all-more nothing-stands (elements-of (fields-stand p i)))
-  where
-    elements-of : {fs : List Field} → All (λ f. Stands s (f .element)) fs → All (Stands s) (map (λ f. f .element) fs)
-    elements-of all-none = all-none
-    elements-of (all-more h k) = all-more h (elements-of k)
-
-    picked : (n : ℕ) {os : List (Option Element)} → All (Stands s) os → Stands s (getD os n none)
-    picked n all-none = nothing-stands
-    picked zero (all-more h k) = h
-    picked (suc n) (all-more h k) = picked n k
-
-field-part-is : {ps : List Payment} {k : ℕ} {p : Payment} (field : ℕ) → At ps k p → field-of ps k field ≡ part-of (field-element field p)
-unfolding field-of
-field-part-is field at-first = refl
-field-part-is field (at-later a) = field-part-is field a
-
-at-all : {P : Payment → Type 0} {ps : List Payment} {k : ℕ} {p : Payment} → All P ps → At ps k p → P p
-at-all (all-more h k) at-first = h
-at-all (all-more h k) (at-later a) = at-all k a
-
-pub field-is-text : {s : List ℕ} {root : Element} → IsMessage s root → (k field : ℕ) {p : Payment} {h : Head} {w : List ℕ} → At (payments root) k p
-    → field-element field p ≡ some (holding-text h w) → take (field-of (payments root) k field .size) (drop (field-of (payments root) k field .start) s) ≡ w
-field-is-text {s} m k field {p} {h} {w} a e =
-    rw (field-part-is field a) (part-is-text (field-stands field (at-all (payments-in-place m) a)) .bytes-are h w e)
