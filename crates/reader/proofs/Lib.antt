@@ -2,3 +2,4 @@
 pub mod Verdicts
 pub mod Parts
 pub mod Agreement
+pub mod Texts
