@@ -1,0 +1,6 @@
+pub mod Changed
+pub mod FormCases
+pub mod RowCases
+pub mod StageCases
+pub mod FieldCases
+pub mod RegroupingCases
