@@ -234,13 +234,13 @@ unfoldable pub copies : ℕ → List ℕ → List ℕ
 copies zero s = []
 copies (suc n) s = s ++ copies n s
 
--- a block of so many bare payments; so many such blocks
+-- a block of so many bare payments
 unfoldable pub crowd : ℕ → List ℕ
 crowd n =
     between "<PmtInf>" (11 ∷ 12 ∷ 14 ∷ 15 ∷ 22 ∷ 24 ∷ 26 ∷ 29 ∷ []) "" ++
     (copies n (bare-payment (38 ∷ 41 ∷ 44 ∷ 45 ∷ []) "" [] "") ++ bytes "</PmtInf>")
 
--- a root that holds so many elements, each in the one before
+-- so many elements, each in the one before, the last of them around a text
 unfoldable pub nested : ℕ → List ℕ → List ℕ
 nested zero s = s
 nested (suc n) s = bytes "<A>" ++ (nested n s ++ bytes "</A>")

@@ -1,1 +1,1 @@
-// Messages and regroupings whose answers are computed from the definitions, under one theorem (specs/, proofs/Proved.antt).
+// Messages and regroupings whose answers are computed from the definitions, under one theorem for each list (specs/, proofs/Proved.antt).
