@@ -72,21 +72,6 @@ same-value-tests (in-cents n) = eq-eqb n n refl
 same-value-tests (free-text w) = same-tests w
 same-value-tests (reference i w) = both (same-tests w) (same-issuer-tests i)
 
-pub same-payment-says : (v w : List Value) → same-payment v w ≡ true → v ≡ w
-unfolding same-payment
-same-payment-says [] [] e = refl
-same-payment-says [] (w ∷ ws) e = false-not-true e
-same-payment-says (v ∷ vs) [] e = false-not-true e
-same-payment-says (v ∷ vs) (w ∷ ws) e = cons (same-value-says v w (both-left (same-value v w) _ e)) (same-payment-says vs ws (both-right (same-value v w) _ e))
-  where
-    cons : v ≡ w → vs ≡ ws → v ∷ vs ≡ w ∷ ws
-    cons p q = cc
-
-pub same-payment-tests : (v : List Value) → same-payment v v ≡ true
-unfolding same-payment
-same-payment-tests [] = refl
-same-payment-tests (v ∷ vs) = both (same-value-tests v) (same-payment-tests vs)
-
 -- no field differs exactly where the payments are equal
 pub no-difference : (n : ℕ) (v w : List Value) → differ-from n v w ≡ none → v ≡ w
 unfolding differ-from
@@ -106,6 +91,18 @@ pub equal-no-difference : (n : ℕ) (v : List Value) → differ-from n v v ≡ n
 unfolding differ-from
 equal-no-difference n [] = refl
 equal-no-difference n (v ∷ vs) = rw (same-value-tests v) (equal-no-difference (suc n) vs)
+
+pub same-payment-says : (v w : List Value) → same-payment v w ≡ true → v ≡ w
+unfolding same-payment
+same-payment-says v w e = go (differ-from 1 v w) refl e
+  where
+    go : (o : Option ℕ) → differ-from 1 v w ≡ o → _≡_ {A = Bool} (elim o [ none ↦ true | some field ↦ false ]) true → v ≡ w
+    go none d e = no-difference 1 v w d
+    go (some field) d e = false-not-true e
+
+pub same-payment-tests : (v : List Value) → same-payment v v ≡ true
+unfolding same-payment
+same-payment-tests v = rw (equal-no-difference 1 v, same-payment)
 
 pub among-member : {n : ℕ} {ks : List ℕ} → List·Memᴰ n ks → among n ks ≡ true
 unfolding among

@@ -14,7 +14,7 @@ use Rattle.paper.specs.Payments.{Payment, payments}
 use Rattle.paper.specs.Refusals.{Refusal, Outcome, refused-as, accepted-with, outcome-alone}
 use Rattle.paper.specs.Accepted.{Accepted, All, EachWith, Distinct}
 use Rattle.paper.specs.Table.{Part, part-of}
-use Rattle.paper.specs.Fields.{Value, same-value, values-of, differ-from, field-part}
+use Rattle.paper.specs.Fields.{Value, values-of, differ-from, field-part}
 
 -- The file of some ordinals: `RGL`, 16-bit version 1, 16-bit count, then that many 16-bit ordinals, high byte first; no other byte.
 unfoldable pub two-bytes : ℕ → List ℕ
@@ -123,11 +123,9 @@ pub record AcceptableList (profile : List Row) (first second : List ℕ) : Type 
   pub of-bytes : All (λ b. b < 256) file
   pub accepted : Regroups profile first second file
 
+-- two payments that differ in no field
 unfoldable pub same-payment : List Value → List Value → Bool
-same-payment [] [] = true
-same-payment [] (w ∷ ws) = false
-same-payment (v ∷ vs) [] = false
-same-payment (v ∷ vs) (w ∷ ws) = same-value v w && same-payment vs ws
+same-payment v w = elim (differ-from 1 v w) [ none ↦ true | some field ↦ false ]
 
 unfoldable pub often : List Value → List (List Value) → ℕ
 often p [] = 0
