@@ -194,11 +194,11 @@ used p = (
         somewhere = somewhere 16 p .0 (b .0);
         type-once = not-both 16 p .0 (a .0);
         charges-once = not-both 36 p .0 (c .0);
-        debtor-once = not-both 34 p .0 (c .1);
+        ultimate-debtor-once = not-both 34 p .0 (c .1);
       }),
   (λ u.
       or-none (not-both 16 p .1 (u .type-once))
-      (or-none (somewhere 16 p .1 (u .somewhere)) (or-none (not-both 36 p .1 (u .charges-once)) (not-both 34 p .1 (u .debtor-once))))),
+      (or-none (somewhere 16 p .1 (u .somewhere)) (or-none (not-both 36 p .1 (u .charges-once)) (not-both 34 p .1 (u .ultimate-debtor-once))))),
 )
 
 usage-used : (ps : List Payment) → usage ps ≡ none → All Used ps

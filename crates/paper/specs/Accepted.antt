@@ -1,4 +1,4 @@
--- Acceptance (docs/RULES.md, 5; demand 2), said without any order of checks. It speaks of a message; that the lent table is long enough is asked beside it.
+-- Acceptance (docs/RULES.md, 5), said without any order of checks. It speaks of a message; that the lent table is long enough is asked beside it.
 use Prim.Native.Nat.{ℕ, _+_, _≤_, _<_, _^_}
 use mathlib.Core.List.{List, [], _∷_, map, List·Memᴰ}
 use mathlib.Core.Option.{Option, some}
@@ -26,7 +26,7 @@ pub data Distinct {A : Type 0} : List A → Type 0 where
   distinct-none : Distinct []
   distinct-more : {a : A} {rest : List A} → (List·Memᴰ a rest → ⊥) → Distinct rest → Distinct (a ∷ rest)
 
--- something stands there; a leaf stands there, and its text means this
+-- something stands there; it stands there, and its text means this (that it is a leaf, and holds text, is said by the rows)
 pub record There (o : Option Element) : Type 0 where
   pub it : Element
   pub is-it : o ≡ some it
@@ -65,7 +65,7 @@ pub record Used (p : Payment) : Type 0 where
   pub somewhere : There (in-payment (16 ∷ []) p) ⊎ There (in-block (16 ∷ []) p)
   pub type-once : NotBoth 16 p
   pub charges-once : NotBoth 36 p
-  pub debtor-once : NotBoth 34 p
+  pub ultimate-debtor-once : NotBoth 34 p
 
 unfoldable pub UsageKept : Element → Type 0
 UsageKept root = All Used (payments root)
@@ -88,7 +88,7 @@ pub record TotalFits (root : Element) : Type 0 where
   pub is-total : Sum (map (λ p. p .own) (payments root)) cents
   pub fits : cents < 2 ^ 64
 
--- What stands before the counts.
+-- All that is asked but the counts and sums.
 pub record RightButCounts (profile : List Row) (root : Element) : Type 0 where
   pub rows : RowsKept profile root
   pub limits : LimitsKept root

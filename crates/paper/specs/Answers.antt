@@ -33,6 +33,7 @@ refusal-of (TotalTooLarge offset) = numbered 21 7 offset
 refusal-of (CountDiffers element offset) = numbered 12 element offset
 refusal-of (SumDiffers element offset) = numbered 13 element offset
 
+-- what a stage has found: nothing, or a refusal
 unfoldable pub refusal-found : Finding → Option Refusal
 refusal-found finding.Nothing = none
 refusal-found (finding.Refused fault) = some (refusal-of fault)

@@ -18,12 +18,12 @@ unfoldable pub bytes : String → List ℕ
 bytes []ˢ = []
 bytes (c ∷ˢ s) = code c ∷ bytes s
 
--- the byte is that of this character; of a character from `a` to `z`; of one of these
+-- the byte is that of this character; of a character from one to another; of one of these
 unfoldable pub is : Char → ℕ → Bool
 is c b = eqb b (code c)
 
 unfoldable pub from-to : Char → Char → ℕ → Bool
-from-to a z b = leb (code a) b && leb b (code z)
+from-to first last b = leb (code first) b && leb b (code last)
 
 unfoldable pub one-of : String → ℕ → Bool
 one-of []ˢ b = false

@@ -10,7 +10,7 @@ use Rattle.paper.specs.Table.{over, written}
 unfoldable pub four-bytes : ℕ → List ℕ
 four-bytes n = n / 16777216 ∷ n / 65536 % 256 ∷ n / 256 % 256 ∷ n % 256 ∷ []
 
--- One to three bytes left at the end make no number,
+-- One to three bytes left at the end make no number (so a table of 4,095 bytes has 1,023 numbers, and is too short),
 unfoldable pub numbers-held : (table : List ℕ) → ℕ
 numbers-held table = length table / 4
 

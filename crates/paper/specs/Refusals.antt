@@ -40,7 +40,7 @@ unfoldable pub first-not : (ℕ → Bool) → List ℕ → ℕ
 first-not p [] = 0
 first-not p (b ∷ s) = if p b then suc (first-not p s) else 0
 
--- 3 and 4, one walk in the order of the file, over any profile. At the leaves it asks a judgement, which is none for 3 and 4.
+-- 3 and 4, one walk in the order of the file, in a profile. At the leaves it asks a judgement, which is none for 3 and 4.
 -- What is left of a group's order: some places; or, where row k, one or more, has been seen, further ones of it and then some places.
 pub data Left : Type 0 where
   from-here : List Place → Left

@@ -23,7 +23,7 @@ two-bytes n = n / 256 ∷ n % 256 ∷ []
 unfoldable pub file-of : (ordinals : List ℕ) → List ℕ
 file-of ordinals = bytes "RGL" ++ each two-bytes (1 ∷ length ordinals ∷ ordinals)
 
--- the ordinals of a file, if it is of that form
+-- the ordinals of a file of bytes, if it is of that form
 unfoldable pub add-first : ℕ → Option (List ℕ) → Option (List ℕ)
 add-first n none = none
 add-first n (some ns) = some (n ∷ ns)
@@ -95,7 +95,7 @@ part-for a second = if eqb (a .whose) 0 && eqb (a .number) 20 then field-part se
 unfoldable pub differing-part : List Row → (first second file : List ℕ) → Part
 differing-part profile first second file = part-for (regrouping profile first second file) (outcome-alone profile second)
 
--- A regrouping is accepted, said plainly (demand 3): both messages are accepted and have equally many payments; the list is well formed and names every
+-- A regrouping is accepted, said plainly: both messages are accepted and have equally many payments; the list is well formed and names every
 -- payment of the first message once, in the order of the second; each payment so paired is equal in all seventeen fields.
 pub data At {A : Type 0} : List A → (place : ℕ) → A → Type 0 where
   at-first : {a : A} {rest : List A} → At (a ∷ rest) zero a
@@ -113,7 +113,7 @@ pub record Regroups (profile : List Row) (first second file : List ℕ) : Type 0
   pub equally-many : length (payments (first-accepted .root)) ≡ length (payments (second-accepted .root))
   pub ordinals : List ℕ
   pub well-formed : file ≡ file-of ordinals
-  pub every-payment : (k : ℕ) → k < length (payments (first-accepted .root)) → List·Memᴰ k ordinals
+  pub every-payment : (payment : ℕ) → payment < length (payments (first-accepted .root)) → List·Memᴰ payment ordinals
   pub once : Distinct ordinals
   pub paired : EachWith (Names (payments (first-accepted .root))) ordinals (payments (second-accepted .root))
 

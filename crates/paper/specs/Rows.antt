@@ -95,7 +95,7 @@ rows =
     leaf 54 "Issr" 35 ∷
     leaf 55 "Ref" 35 ∷ []
 
--- A row's name goes by its number alone. (A number that is no row's has no name, which no element can have.)
+-- A row's name goes by its number alone. (A number that is no row's has the empty name, which no element has.)
 unfoldable pub name-in : List Row → ℕ → List ℕ
 name-in [] k = []
 name-in (r ∷ rs) k = if eqb (r .row) k then r .name else name-in rs k
@@ -103,7 +103,8 @@ name-in (r ∷ rs) k = if eqb (r .row) k then r .name else name-in rs k
 unfoldable pub name : ℕ → List ℕ
 name k = name-in rows k
 
--- What row k is under a parent, in a profile: a table of rows.
+-- What row k is under a parent, in a profile: a list of rows. There is one today, `rows`. A profile says what its rows hold; their names are those of `rows`. (A number that is no
+-- row's would be a leaf that no text is right for.)
 unfoldable pub row-of : List Row → (parent k : ℕ) → Row
 row-of [] parent k = record { row = k; under = parent; name = []; holds = text 0 }
 row-of (r ∷ rs) parent k =
@@ -128,7 +129,7 @@ unfoldable pub head-of : Element → Head
 head-of (holding-text h w) = h
 head-of (holding-elements h ts) = h
 
--- An element conforms to a row, over any profile: a leaf holds text that is right for it, a group holds children of rows that are arranged as it says, each
+-- An element conforms to a row, in a profile: a leaf holds text that is right for it, a group holds children of rows that are arranged as it says, each
 -- named as its row and conforming to it.
 module _ (profile : List Row) (Right : (parent : ℕ) → Row → Head → List ℕ → Type 0) where
   unfoldable mutual

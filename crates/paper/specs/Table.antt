@@ -24,7 +24,7 @@ part-of (some t) = record { start = head-of t .start; size = head-of t .close - 
 unfoldable pub start-and-length : Option Element → List ℕ
 start-and-length o = part-of o .start ∷ part-of o .size ∷ []
 
--- What the pairs of a payment's row tell of.
+-- What the pairs among a payment's numbers tell of.
 unfoldable pub pairs : Payment → List (Option Element)
 pairs p =
     in-payment (38 ∷ 40 ∷ []) p ∷  -- numbers 1 and 2: the end-to-end id
@@ -58,6 +58,6 @@ written (accepted-with root) = each numbers-of (payments root)
 unfoldable pub over : (front old : List ℕ) → List ℕ
 over front old = front ++ drop (length front) old
 
--- All later numbers keep their old values.
+-- All later numbers keep their old values. (The outcome is that of the message with a table as long as this one: 14 comes first.)
 unfoldable pub table-after : Outcome → (old : List ℕ) → List ℕ
 table-after outcome old = over (written outcome) old
