@@ -13,7 +13,7 @@ use Rattle.paper.specs.Payments.{Payment, listed, children, all-named, all-of, 
 use Rattle.paper.specs.Table.{part-of, pairs}
 use Rattle.paper.specs.Fields.{plain, or-means, amount-field, remittance, fields}
 use Rattle.paper.specs.Accepted.{All, all-none, all-more}
-use Rattle.paper.proofs.Laws.{all-joined, all-map}
+use Rattle.paper.proofs.Laws.{all-joined}
 use Rattle.grammar.proofs.InPlace.{InPlace, text-in-place, elements-in-place, AllInPlace, none-in-place, more-in-place, in-place}
 
 -- of an element that may be absent: if it is there, it stands in the message
@@ -152,13 +152,3 @@ part-is-text {s} {o} i = record { bytes-are = λ h w e. rw e (held (standing i e
     held : {h : Head} {w : List ℕ} → InPlace s (holding-text h w)
         → take (part-of (some (holding-text h w)) .size) (drop (part-of (some (holding-text h w)) .start) s) ≡ w
     held (text-in-place g e) = unfold part-of head-of in e
-
--- So it is of each pair and each field of every payment.
-pub record PartsAreTexts (s : List ℕ) (p : Payment) : Type 0 where
-  pub of-pairs : All (PartIsText s) (pairs p)
-  pub of-fields : All (λ f. PartIsText s (f .element)) (fields p)
-
-pub parts-are-texts : {s : List ℕ} {root : Element} → IsMessage s root → All (PartsAreTexts s) (payments root)
-parts-are-texts m =
-    all-map (λ p i. record { of-pairs = all-map (λ o h. part-is-text h) (pairs-stand p i); of-fields = all-map (λ f h. part-is-text h) (fields-stand p i) })
-    (payments-in-place m)
