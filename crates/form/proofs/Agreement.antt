@@ -8,7 +8,7 @@ use Rattle.paper.specs.Form.{OfTheForm as IsOfTheForm}
 use Rattle.form.specs.Promise.{FormPromise}
 use Rattle.form.specs.declared.Form.{Form}
 use Rattle.form.specs.declared.Form.the-variants.{OfTheForm, RefusedAt}
-use Rattle.grammar.proofs.Decides.{one-offset}
+use Rattle.paper_grammar.proofs.Decides.{one-offset}
 
 -- any two answers that meet the contract are equal
 pub agree : (s : List ℕ) (a b : Form) → FormPromise s a → FormPromise s b → a ≡ b

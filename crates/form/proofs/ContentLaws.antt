@@ -13,11 +13,11 @@ use borrow.Author.Tests.{eqb-true, eqb-false, ne-eqb, le-leb, lt-leb}
 use Rattle.paper.specs.Bytes.{bytes, is, from-to, one-of, white, text-byte, capital, letter, letter-or-digit}
 use Rattle.paper.specs.Form.{Element, Elements, holding-text, holding-elements, []ᵉ, _∷ᵉ_, end-tag}
 use Rattle.paper.specs.Computed.Reading.{Open, closed, State, angle, naming, blank, in-text, after-child, want, ending, step, ended, stops-at}
-use Rattle.scans.specs.Scans.{from, Scanned, stops, Word, Tag, Opened, White, Name, Text, Child, ChildAt, TextOf, ContentOf, ElementAt}
-use Rattle.scans.specs.declared.Scan.{Scan}
-use Rattle.scans.specs.declared.Scan.the-variants.{To, StopsAt}
-use Rattle.grammar.proofs.Complete.{among-stays}
-use Rattle.scans.proofs.Laws.{from-next, from-stuck, from-short, want-step, want-stuck, want-append, text-step, reached, halts, first, via, giving, chain}
+use Rattle.form_scans.specs.Scans.{from, Scanned, stops, Word, Tag, Opened, White, Name, Text, Child, ChildAt, TextOf, ContentOf, ElementAt}
+use Rattle.form_scans.specs.declared.Scan.{Scan}
+use Rattle.form_scans.specs.declared.Scan.the-variants.{To, StopsAt}
+use Rattle.paper_grammar.proofs.Complete.{among-stays}
+use Rattle.form_scans.proofs.Laws.{from-next, from-stuck, from-short, want-step, want-stuck, want-append, text-step, reached, halts, first, via, giving, chain}
 
 -- two states from which the machine runs alike
 module _ (s : List ℕ) (q r : State) (p : ℕ) where

@@ -13,13 +13,13 @@ use Rattle.paper.specs.Bytes.{bytes, is, one-of, white}
 use Rattle.paper.specs.Form.{Element, root-tag, declaration}
 use Rattle.paper.specs.Computed.Reading.{opening, opened, before, after, want, in-root, step, ended, run, read, root-is}
 use Rattle.form.specs.Promise.{FormPromise}
-use Rattle.scans.specs.Scans.{from, Scanned, Word, White, ContentOf, Prologue, RootAt}
+use Rattle.form_scans.specs.Scans.{from, Scanned, Word, White, ContentOf, Prologue, RootAt}
 use Rattle.form.specs.declared.Form.the-variants.{OfTheForm, RefusedAt}
-use Rattle.scans.specs.declared.Scan.{Scan}
-use Rattle.scans.specs.declared.Scan.the-variants.{To, StopsAt}
-use Rattle.grammar.proofs.Complete.{opened-by, after-stays, before-stays}
-use Rattle.grammar.proofs.Decides.{stop-is-refusal, root-is-form}
-use Rattle.scans.proofs.Laws.{from-stuck, want-step, want-stuck, reached, halted, halts, first, via, chain}
+use Rattle.form_scans.specs.declared.Scan.{Scan}
+use Rattle.form_scans.specs.declared.Scan.the-variants.{To, StopsAt}
+use Rattle.paper_grammar.proofs.Complete.{opened-by, after-stays, before-stays}
+use Rattle.paper_grammar.proofs.Decides.{stop-is-refusal, root-is-form}
+use Rattle.form_scans.proofs.Laws.{from-stuck, want-step, want-stuck, reached, halted, halts, first, via, chain}
 use Rattle.form.proofs.ContentLaws.{alike-short, alike-stuck, alike-next}
 
 -- the declaration, which begins with `<?`

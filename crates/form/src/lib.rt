@@ -1,7 +1,7 @@
 // The written form (docs/RULES.md, 2; refusal 2): whether a message is of the form, and if not, the first byte that cannot be.
 // One pass over the message, in place. Elements within elements are read by recursion, which the depth bounds; siblings and
 // bytes are read by loops.
-use scans::Scan;
+use form_scans::Scan;
 ghost use mathlib.Core.Path.{_≡_};
 ghost use mathlib.Core.Bool.{false};
 ghost use Prim.Native.Nat.{_≤_, _<_};
@@ -9,7 +9,7 @@ ghost use lib.ListN.{length, getD};
 ghost use Rattle.paper.specs.Bytes.{white};
 ghost use Rattle.paper.specs.Computed.Reading.{opening, before};
 ghost use Rattle.form.specs.Promise.{FormPromise};
-ghost use Rattle.scans.specs.Scans.{TextOf, ChildAt, ContentOf, ElementAt, Prologue, RootAt};
+ghost use Rattle.form_scans.specs.Scans.{TextOf, ChildAt, ContentOf, ElementAt, Prologue, RootAt};
 
 // The answer: of the form, or refused at an offset. `FormPromise` tells what each says of the message.
 pub enum Form {
@@ -21,7 +21,7 @@ pub enum Form {
 fn text(s: &[u8], name: &[u8], at: usize) -> Scan
     ensures { λ r. ⌜ (at ≤ length (now (s .entry)) → TextOf (now (s .entry)) (now (name .entry)) at r) ⌝ }
 {
-    scans::end_tag(s, name, scans::text_end(s, at))
+    form_scans::end_tag(s, name, form_scans::text_end(s, at))
 }
 
 // Whether a child's start tag begins here, which is a `<` that no `/` follows.
@@ -48,12 +48,12 @@ fn content(s: &[u8], name: &[u8], start: usize, left: usize) -> Scan
 {
     let mut at = start;
     loop {
-        let p = scans::white_end(s, at);
+        let p = form_scans::white_end(s, at);
         if !child_at(s, p) {
             if at == start {
                 return text(s, name, p);
             }
-            return scans::end_tag(s, name, p);
+            return form_scans::end_tag(s, name, p);
         }
         match element(s, p + 1, left) {
             Scan::StopsAt(n) => {
@@ -71,20 +71,20 @@ fn element(s: &[u8], at: usize, left: usize) -> Scan
     requires { ⌜ (at < length (now s)) × (left ≤ 12) × (getD (now s) at 0 ≡ 47 → ⊥) ⌝ }
     ensures { λ r. ⌜ ElementAt (now (s .entry)) at left r ⌝ }
 {
-    if !classes::is_letter(s[at]) {
+    if !form_ranks::is_letter(s[at]) {
         return Scan::StopsAt(at);
     }
     if left == 0 {
         return Scan::StopsAt(at);
     }
-    let e = scans::name_end(s, at);
+    let e = form_scans::name_end(s, at);
     if e == s.len() {
         return Scan::StopsAt(e);
     }
-    if classes::is_letter_or_digit(s[e]) {
+    if form_ranks::is_letter_or_digit(s[e]) {
         return Scan::StopsAt(e);
     }
-    match scans::tag_end(s, &s[at..e], e) {
+    match form_scans::tag_end(s, &s[at..e], e) {
         Scan::StopsAt(n) => Scan::StopsAt(n),
         Scan::To(p) => content(s, &s[at..e], p, left - 1),
     }
@@ -103,7 +103,7 @@ fn prologue(s: &[u8]) -> Scan
     if s[1] != b'?' {
         return Scan::To(0);
     }
-    scans::word(s, 0, b"<?xml version=\"1.0\" encoding=\"UTF-8\"?>")
+    form_scans::word(s, 0, b"<?xml version=\"1.0\" encoding=\"UTF-8\"?>")
 }
 
 // The root, where no white space stands before it.
@@ -111,7 +111,7 @@ fn root_at(s: &[u8], at: usize) -> Scan
     requires { ⌜ (at ≤ length (now s)) × (at < length (now s) → white (getD (now s) at 0) ≡ false) ⌝ }
     ensures { λ r. ⌜ RootAt (now (s .entry)) at before r ⌝ }
 {
-    match scans::word(
+    match form_scans::word(
         s,
         at,
         b"<Document xmlns=\"urn:iso:std:iso:20022:tech:xsd:pain.001.001.09\">",
@@ -127,7 +127,7 @@ fn root(s: &[u8]) -> Scan
 {
     match prologue(s) {
         Scan::StopsAt(n) => Scan::StopsAt(n),
-        Scan::To(p) => root_at(s, scans::white_end(s, p)),
+        Scan::To(p) => root_at(s, form_scans::white_end(s, p)),
     }
 }
 
@@ -138,7 +138,7 @@ pub fn form_of(s: &[u8]) -> Form
     match root(s) {
         Scan::StopsAt(n) => Form::RefusedAt(n),
         Scan::To(p) => {
-            let e = scans::white_end(s, p);
+            let e = form_scans::white_end(s, p);
             if e == s.len() {
                 Form::OfTheForm
             } else {

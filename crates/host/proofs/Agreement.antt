@@ -14,17 +14,17 @@ use Rattle.paper.specs.Accepted.{All, Accepted}
 use Rattle.paper.specs.Regrouping.{RegroupingAnswer, regrouping, Regroups}
 use Rattle.paper.specs.Table.{over, written, table-after}
 use Rattle.paper.specs.Host.{four-bytes, numbers-held, bytes-after}
-use Rattle.acceptance.proofs.Proper.{rows-proper}
-use Rattle.acceptance.proofs.Outcome.{accepted-with-table, accepted-alone}
-use Rattle.acceptance.proofs.Accepts.{accepts-with-table}
-use Rattle.acceptance.proofs.Order as the-order
-use Rattle.pairing.proofs.Six as six
-use Rattle.pairing.proofs.Six.{SixNumbers, six-numbers}
-use Rattle.answers.specs.Numbers.{as-answer, as-regrouping-answer}
-use Rattle.answers.specs.declared.OfMessage.{OfMessage}
-use Rattle.answers.specs.declared.OfRegrouping.{OfRegrouping}
-use Rattle.answers.proofs.Agreement.{one-message, one-six}
-use Rattle.table.proofs.Filling.{all-numbers-length}
+use Rattle.paper_acceptance.proofs.Proper.{rows-proper}
+use Rattle.paper_acceptance.proofs.Outcome.{accepted-with-table, accepted-alone}
+use Rattle.paper_acceptance.proofs.Accepts.{accepts-with-table}
+use Rattle.paper_acceptance.proofs.Order as the-order
+use Rattle.paper_pairing.proofs.Six as six
+use Rattle.paper_pairing.proofs.Six.{SixNumbers, six-numbers}
+use Rattle.verdict_answers.specs.Numbers.{as-answer, as-regrouping-answer}
+use Rattle.verdict_answers.specs.declared.OfMessage.{OfMessage}
+use Rattle.verdict_answers.specs.declared.OfRegrouping.{OfRegrouping}
+use Rattle.verdict_answers.proofs.Agreement.{one-message, one-six}
+use Rattle.verdict_table.proofs.Filling.{all-numbers-length}
 use Rattle.host.specs.Promises.{HostVerdictPromise, HostRegroupPromise}
 use Rattle.host.proofs.Laws.{four-length}
 

@@ -19,13 +19,13 @@ use Rattle.paper.specs.declared.Fault.the-variants.{TableTooShort}
 use Rattle.paper.specs.declared.Verdict.{Verdict}
 use Rattle.paper.specs.declared.Verdict.the-variants.{Accepted, Refused}
 use Rattle.paper.proofs.Laws.{each-more, each-length}
-use Rattle.answers.specs.Numbers.{as-answer}
-use Rattle.answers.specs.declared.OfMessage.{OfMessage}
-use Rattle.table.proofs.Filling.{all-numbers-length}
-use Rattle.reader.specs.Promises.{VerdictPromise}
-use Rattle.reader.proofs.Verdicts.{long-enough}
-use Rattle.reader.proofs.Agreement.{Filled, accepted-fills}
-use Rattle.answers.proofs.Agreement.{no-zero}
+use Rattle.verdict_answers.specs.Numbers.{as-answer}
+use Rattle.verdict_answers.specs.declared.OfMessage.{OfMessage}
+use Rattle.verdict_table.proofs.Filling.{all-numbers-length}
+use Rattle.verdict_reader.specs.Promises.{VerdictPromise}
+use Rattle.verdict_reader.proofs.Verdicts.{long-enough}
+use Rattle.verdict_reader.proofs.Agreement.{Filled, accepted-fills}
+use Rattle.verdict_answers.proofs.Agreement.{no-zero}
 use Rattle.host.specs.Promises.{HostVerdictPromise}
 
 -- room for four bytes at a place, and for those after what was put

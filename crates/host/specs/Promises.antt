@@ -6,9 +6,9 @@ use Rattle.paper.specs.Rows.{rows}
 use Rattle.paper.specs.Refusals.{verdict, outcome}
 use Rattle.paper.specs.Regrouping.{regrouping}
 use Rattle.paper.specs.Host.{numbers-held, bytes-after}
-use Rattle.answers.specs.Numbers.{as-answer, as-regrouping-answer}
-use Rattle.answers.specs.declared.OfMessage.{OfMessage}
-use Rattle.answers.specs.declared.OfRegrouping.{OfRegrouping}
+use Rattle.verdict_answers.specs.Numbers.{as-answer, as-regrouping-answer}
+use Rattle.verdict_answers.specs.declared.OfMessage.{OfMessage}
+use Rattle.verdict_answers.specs.declared.OfRegrouping.{OfRegrouping}
 
 -- `glowenzo_verdict`: the rules' verdict on the message and the numbers that the table holds, as six numbers, and every byte of the table afterwards.
 pub record HostVerdictPromise (message before : List ℕ) (answer : OfMessage) (after : List ℕ) : Type 0 where

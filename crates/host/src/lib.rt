@@ -1,8 +1,8 @@
 // The two functions that the payment host calls, over lent bytes; include/glowenzo.h says them to C.
-use answers::OfMessage;
-use answers::OfRegrouping;
 use paper::Fault;
 use paper::Verdict;
+use verdict_answers::OfMessage;
+use verdict_answers::OfRegrouping;
 ghost use mathlib.Core.Path.{_≡_};
 ghost use mathlib.Core.List.{_++_};
 ghost use Prim.Native.Nat.{_+_, _*_, _≤_};
@@ -48,19 +48,19 @@ pub extern "C" fn glowenzo_verdict(message: &[u8], table: &mut [u8]) -> OfMessag
     ensures { λ r. ⌜ HostVerdictPromise (now (message .entry)) (now (table .entry)) r (now (table .exit)) ⌝ }
 {
     if table.len() < 4096 {
-        return answers::of_message(Verdict::Refused(Fault::TableTooShort));
+        return verdict_answers::of_message(Verdict::Refused(Fault::TableTooShort));
     }
     let mut numbers = [0u32; 1024];
-    let found = reader::verdict(message, &mut numbers);
+    let found = verdict_reader::verdict(message, &mut numbers);
     match found {
-        Verdict::Refused(fault) => answers::of_message(Verdict::Refused(fault)),
+        Verdict::Refused(fault) => verdict_answers::of_message(Verdict::Refused(fault)),
         Verdict::Accepted {
             blocks,
             payments,
             cents,
         } => {
             write(&numbers, 16 * payments, table);
-            answers::of_message(Verdict::Accepted {
+            verdict_answers::of_message(Verdict::Accepted {
                 blocks,
                 payments,
                 cents,
@@ -74,5 +74,5 @@ pub extern "C" fn glowenzo_verdict(message: &[u8], table: &mut [u8]) -> OfMessag
 pub extern "C" fn glowenzo_regroup(first: &[u8], second: &[u8], list: &[u8]) -> OfRegrouping
     ensures { λ r. ⌜ HostRegroupPromise (now (first .entry)) (now (second .entry)) (now (list .entry)) r ⌝ }
 {
-    answers::of_regrouping(regrouping::regroup(first, second, list))
+    verdict_answers::of_regrouping(move_regrouping::regroup(first, second, list))
 }

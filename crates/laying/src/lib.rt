@@ -121,7 +121,7 @@ fn elements(s: &[u8], tree: &mut [u16], from: usize, i: usize, depth: usize) -> 
     let mut at = find(s, from, b'<', b'<');
     let mut next = i;
     while at < s.len() {
-        if texts::byte_at(s, at + 1) == b'/' {
+        if leaf_texts::byte_at(s, at + 1) == b'/' {
             return Reach { to: at, next };
         }
         let child = element(s, tree, at, next, depth);
@@ -142,7 +142,7 @@ fn root_at(s: &[u8]) -> usize
     if s.len() <= first {
         return first;
     }
-    if texts::byte_at(s, first + 1) == b'?' {
+    if leaf_texts::byte_at(s, first + 1) == b'?' {
         return find(s, first + 1, b'<', b'<');
     }
     first

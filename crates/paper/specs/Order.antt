@@ -1,6 +1,6 @@
 -- The order of the checks, said without computing. Of a message (docs/RULES.md, 6): the stages, the numbers that each gives, and what `Accepted` says of each. (Which fault
 -- is first within a stage, with its element and offset, is said by `Refusals`.) That the answer's number is one of a stage's exactly where that stage is the first that does
--- not hold is proved: crates/acceptance/proofs/Order.antt, `refused-by`.
+-- not hold is proved: crates/paper_acceptance/proofs/Order.antt, `refused-by`.
 use Prim.Native.Nat.{ℕ, suc, _≤_, _<_}
 use mathlib.Core.List.{List, [], _∷_, _++_, List·Memᴰ}
 use mathlib.Core.Path.{_≡_}
@@ -56,7 +56,7 @@ pub data FirstNot (H : Stage → Type 0) : List Stage → Stage → Type 0 where
   a-later-one : {first stage : Stage} {later : List Stage} → H first → FirstNot H later stage → FirstNot H (first ∷ later) stage
 
 -- Of a regrouping (docs/RULES.md, 9): one case for each of its answers, which says that the checks before it hold. That for a file of bytes `regrouping` answers so, and in no
--- other way, is proved: crates/pairing/proofs/Order.antt, `answers-in-order`.
+-- other way, is proved: crates/paper_pairing/proofs/Order.antt, `answers-in-order`.
 -- The lowest field in which two payments differ: those before it are equal.
 pub record LowestDifference (one other : Payment) (field : ℕ) : Type 0 where
   pub equal-before : List Value

@@ -43,7 +43,7 @@ unfoldable pub of-header : ℕ → Element → Option Element
 of-header k root = follow (2 ∷ 3 ∷ k ∷ []) root
 
 -- Leaves that later rules ask for: the header's count and sum, a block's id, count and sum, a payment's instructed amount. (In a message that keeps the rows
--- none is absent: crates/acceptance/proofs/Present.antt, `leaves-there`.)
+-- none is absent: crates/paper_acceptance/proofs/Present.antt, `leaves-there`.)
 abbrev pub header-count : Element → Option Element
 header-count root = of-header 6 root
 

@@ -34,7 +34,7 @@ pairs p =
     inherited (16 ∷ []) p ∷  -- 9 and 10: all that row 16 holds
     in-block (26 ∷ 27 ∷ 28 ∷ []) p ∷ []  -- 11 and 12: the debtor's IBAN
 
--- No pair but the ultimate debtor's may be absent. (That it is so in an accepted message is proved: crates/acceptance/proofs/Present.antt, `no-other-absent`.)
+-- No pair but the ultimate debtor's may be absent. (That it is so in an accepted message is proved: crates/paper_acceptance/proofs/Present.antt, `no-other-absent`.)
 unfoldable pub must-be-there : List Bool
 must-be-there = true ∷ true ∷ true ∷ false ∷ true ∷ true ∷ []
 

@@ -5,25 +5,29 @@ ghost use lib.ListN.{length};
 
 // The verdict of the message at an offset. Answers the offset of the next case.
 fn verdict_at(s: &[u8], at: usize, table: &mut [u32]) -> usize {
-    let message = frames::part_at(s, at);
+    let message = run_frames::part_at(s, at);
     let a = message.start;
     let b = message.end;
-    printing::message(answers::of_message(reader::verdict(&s[a..b], table)));
+    run_printing::message(verdict_answers::of_message(verdict_reader::verdict(&s[a..b], table)));
     b + 2
 }
 
 // The regrouping of the parts at an offset. Answers the offset of the next case.
 fn regrouping_at(s: &[u8], at: usize) -> usize {
-    let first = frames::part_at(s, at);
+    let first = run_frames::part_at(s, at);
     let a = first.start;
     let b = first.end;
-    let second = frames::part_at(s, b + 1);
+    let second = run_frames::part_at(s, b + 1);
     let c = second.start;
     let d = second.end;
-    let list = frames::part_at(s, d + 1);
+    let list = run_frames::part_at(s, d + 1);
     let e = list.start;
     let f = list.end;
-    printing::regrouping(answers::of_regrouping(regrouping::regroup(&s[a..b], &s[c..d], &s[e..f])));
+    run_printing::regrouping(verdict_answers::of_regrouping(move_regrouping::regroup(
+        &s[a..b],
+        &s[c..d],
+        &s[e..f],
+    )));
     f + 2
 }
 
@@ -32,11 +36,11 @@ fn case_at(s: &[u8], at: usize, table: &mut [u32]) -> usize
     requires { ⌜ at < length (now s) ⌝ }
 {
     let kind = s[at];
-    let name = frames::part_at(s, at + 1);
+    let name = run_frames::part_at(s, at + 1);
     let a = name.start;
     let b = name.end;
-    printing::text(&s[a..b]);
-    printing::text(b": ");
+    run_printing::text(&s[a..b]);
+    run_printing::text(b": ");
     if kind == b'R' {
         return regrouping_at(s, b + 1);
     }
@@ -56,7 +60,7 @@ fn run(s: &[u8], table: &mut [u32]) {
 }
 
 fn run_file(path: &[u8], buffer: &mut [u8], table: &mut [u32]) {
-    let n = frames::load(path, buffer);
+    let n = run_frames::load(path, buffer);
     run(&buffer[..n], table);
 }
 

@@ -13,7 +13,11 @@ fn load(path: &[u8], buf: &mut [u8]) -> usize
 }
 
 fn report(first: &[u8], second: &[u8], list: &[u8]) {
-    printing::regrouping(answers::of_regrouping(regrouping::regroup(first, second, list)));
+    run_printing::regrouping(verdict_answers::of_regrouping(move_regrouping::regroup(
+        first,
+        second,
+        list,
+    )));
 }
 
 fn main() {

@@ -6,7 +6,7 @@ use mathlib.Core.Path.{_≡_, sym, _∙_}
 use Rattle.paper.specs.Form.{Element}
 use Rattle.paper.specs.declared.Finding.{Finding}
 use Rattle.tree.specs.Laid.{Laid}
-use Rattle.answers.proofs.Agreement.{one-finding}
+use Rattle.verdict_answers.proofs.Agreement.{one-finding}
 use Rattle.rows.specs.Walk.{WalkPromise}
 
 pub answers-agree : (s tree : List ℕ) (judging : Bool) (f g : Finding) → WalkPromise s tree judging f → WalkPromise s tree judging g

@@ -14,9 +14,9 @@ use Rattle.paper.specs.Refusals.{walk, rows-refusal, values-refusal}
 use Rattle.paper.specs.Answers.{refusal-found}
 use Rattle.paper.specs.declared.Finding.{Finding}
 use Rattle.tree.specs.Laid.{Laid}
-use Rattle.contents.specs.Judged.{judgement}
+use Rattle.rows_contents.specs.Judged.{judgement}
 use Rattle.rows.specs.Walk.{refusal-by, Walks}
-use Rattle.places.specs.Numbers.{of-entry, of-place, of-kind, place-at, places-from, places-between, holds-at, name-at, row-at, Stands}
+use Rattle.rows_places.specs.Numbers.{of-entry, of-place, of-kind, place-at, places-from, places-between, holds-at, name-at, row-at, Stands}
 
 -- two functions that agree below n, by one equation of lists
 upto : ℕ → List ℕ

@@ -17,11 +17,11 @@ use Rattle.paper.specs.declared.Fault.{Fault}
 use Rattle.paper.proofs.Laws.{false-not-true}
 use Rattle.tree.specs.Laid.{between, Entry, Laid, laid-text, laid-elements, LaidAll, laid-none, laid-more}
 use Rattle.tree.proofs.Laws.{Cell, at-cell, next-cell, entry-of}
-use Rattle.places.specs.Numbers.{of-entry, places-between, places-left, holds-at, row-at, Stands}
-use Rattle.places.specs.Seek.{ResolvedBetween, Seeks}
-use Rattle.contents.specs.Judged.{judgement}
-use Rattle.places.specs.declared.Sought.{Sought as Sought′}
-use Rattle.places.specs.declared.Sought.the-variants as sought
+use Rattle.rows_places.specs.Numbers.{of-entry, places-between, places-left, holds-at, row-at, Stands}
+use Rattle.rows_places.specs.Seek.{ResolvedBetween, Seeks}
+use Rattle.rows_contents.specs.Judged.{judgement}
+use Rattle.rows_places.specs.declared.Sought.{Sought as Sought′}
+use Rattle.rows_places.specs.declared.Sought.the-variants as sought
 
 -- what an entry holds
 module _ (rows places : List ℕ) (e : ℕ) where

@@ -10,9 +10,9 @@ use Rattle.paper.specs.Rows.{Row, rows as the-rows, head-of}
 use Rattle.paper.specs.Refusals.{Refusal, from-here, walk, walk-all, rows-refusal, values-refusal}
 use Rattle.paper.specs.Answers.{refusal-found}
 use Rattle.tree.specs.Laid.{Entry, Laid, LaidAll}
-use Rattle.places.specs.Numbers.{of-entry, places-between, row-at, Stands}
+use Rattle.rows_places.specs.Numbers.{of-entry, places-between, row-at, Stands}
 use Rattle.paper.specs.declared.Finding.{Finding}
-use Rattle.contents.specs.Judged.{judgement}
+use Rattle.rows_contents.specs.Judged.{judgement}
 
 -- the whole walk, from the root
 unfoldable pub refusal-by : (judging : Bool) → List Row → Element → Option Refusal

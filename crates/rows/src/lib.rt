@@ -1,10 +1,10 @@
 // The walk of refusals 3 and 4 over the laid-out tree of a message, and the same walk with the judgement of 6 to 8 at the leaves. The rows are a profile in
-// numbers (crates/places/specs/Numbers.antt); every function but `check` is for any such profile.
+// numbers (crates/rows_places/specs/Numbers.antt); every function but `check` is for any such profile.
 mod profile;
 
 use paper::Fault;
 use paper::Finding;
-use places::Sought;
+use rows_places::Sought;
 ghost use Prim.Native.Nat.{_+_, _<_};
 ghost use Rattle.paper.specs.Rows.{rows};
 ghost use Rattle.rows.specs.Walk.{WalkPromise, Walks, WalksAll};
@@ -26,13 +26,13 @@ fn element(
     if 16384 <= i {
         return Finding::Nothing;
     }
-    let row = places::wide(places::of_entry(rows, e, 0));
-    let longest = places::wide(places::of_entry(rows, e, 4));
+    let row = rows_places::wide(rows_places::of_entry(rows, e, 0));
+    let longest = rows_places::wide(rows_places::of_entry(rows, e, 4));
     if tree::cell(tree, i, 4) <= i + 1 {
         if longest == 0 {
-            return contents::text_in_group(s, tree, rows, places, i, e);
+            return rows_contents::text_in_group(s, tree, rows, places, i, e);
         }
-        return contents::leaf(s, tree, judging, parent, i, row, longest);
+        return rows_contents::leaf(s, tree, judging, parent, i, row, longest);
     }
     if longest == 0 {
         return children(s, tree, names, rows, places, judging, i, e);
@@ -59,10 +59,10 @@ fn children(
     if 16384 <= i {
         return Finding::Nothing;
     }
-    let row = places::wide(places::of_entry(rows, e, 0));
-    let to = places::of_entry(rows, e, 6);
+    let row = rows_places::wide(rows_places::of_entry(rows, e, 0));
+    let to = rows_places::of_entry(rows, e, 6);
     let next = tree::cell(tree, i, 4);
-    let mut place = places::of_entry(rows, e, 5);
+    let mut place = rows_places::of_entry(rows, e, 5);
     let mut further = false;
     let mut child = i + 1;
     while child < next {
@@ -71,7 +71,17 @@ fn children(
         if after <= child {
             return Finding::Nothing;
         }
-        let sought = places::seek_further(s, tree, names, rows, places, child, place, further, to);
+        let sought = rows_places::seek_further(
+            s,
+            tree,
+            names,
+            rows,
+            places,
+            child,
+            place,
+            further,
+            to,
+        );
         match sought {
             Sought::Never => {
                 return Finding::Refused(Fault::NotAllowedThere {
@@ -100,7 +110,7 @@ fn children(
         }
         child = after;
     }
-    places::ends_further(rows, places, place, further, to, tree::cell(tree, i, 3))
+    rows_places::ends_further(rows, places, place, further, to, tree::cell(tree, i, 3))
 }
 
 // The walk over the rows, from the root: 3 and 4, or, where it is judging, 6 to 8 as well.

@@ -45,7 +45,7 @@ fn is_text(s: &[u8], from: usize, to: usize, text: &[u8]) -> bool
     if s.len() < to {
         return false;
     }
-    texts::same(&s[from..to], text)
+    leaf_texts::same(&s[from..to], text)
 }
 
 // Element i has this name.

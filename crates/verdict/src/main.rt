@@ -23,7 +23,7 @@ fn number(table: &[u32], i: usize, k: usize) -> u64 {
 
 // The part of the message whose start and length are numbers `start` and `size` of payment i.
 fn part(message: &[u8], table: &[u32], i: usize, start: usize, size: usize) {
-    printing::part(
+    run_printing::part(
         message,
         number(table, i, start) as usize,
         number(table, i, size) as usize,
@@ -43,18 +43,18 @@ fn cents(table: &[u32], i: usize) -> u64 {
 }
 
 fn payment(message: &[u8], table: &[u32], i: usize) {
-    printing::number(i as u64);
-    printing::text(b" ");
-    printing::number(number(table, i, 0));
-    printing::text(b" ");
+    run_printing::number(i as u64);
+    run_printing::text(b" ");
+    run_printing::number(number(table, i, 0));
+    run_printing::text(b" ");
     part(message, table, i, 11, 12);
-    printing::text(b" ");
+    run_printing::text(b" ");
     part(message, table, i, 3, 4);
-    printing::text(b" ");
-    printing::number(cents(table, i));
-    printing::text(b" ");
+    run_printing::text(b" ");
+    run_printing::number(cents(table, i));
+    run_printing::text(b" ");
     part(message, table, i, 1, 2);
-    printing::text(b"\n");
+    run_printing::text(b"\n");
 }
 
 fn each_payment(message: &[u8], table: &[u32], payments: usize) {
@@ -66,9 +66,9 @@ fn each_payment(message: &[u8], table: &[u32], payments: usize) {
 }
 
 fn report(message: &[u8], table: &mut [u32]) {
-    let answer = answers::of_message(reader::verdict(message, table));
+    let answer = verdict_answers::of_message(verdict_reader::verdict(message, table));
     let payments = answer.payments as usize;
-    printing::message(answer);
+    run_printing::message(answer);
     each_payment(message, table, payments);
 }
 

@@ -195,7 +195,7 @@ fn every_answer_is_reached() {
 
 #[test]
 fn the_files_of_the_crate_hold_the_cases_and_the_lines() {
-    let folder = concat!(env!("CARGO_MANIFEST_DIR"), "/../../crates/fields_run");
+    let folder = concat!(env!("CARGO_MANIFEST_DIR"), "/../../crates/run_fields");
     let (cases, lines) = written::fields_run();
     let file = |name| std::fs::read(format!("{folder}/{name}")).unwrap();
     assert!(file("data/cases") == cases, "examples/fields.rs writes other cases");

@@ -5,7 +5,7 @@ use mathlib.Core.Path.{sym, _∙_}
 use native.Mathlib.Omega.{arith}
 use lib.ListN.{length}
 use borrow.Author.Tests.{not-true, not-false}
-use Rattle.scans.proofs.Laws.{reached}
+use Rattle.form_scans.proofs.Laws.{reached}
 use Rattle.form.proofs.ContentLaws.{Passed, none-passed, one-passed, content-text, content-end, content-stops, element-bounds, no-letter, too-deep, name-short, name-long, tag-stops, element-read}
 use Prim.Native.Nat.{ℕ, _<_}
 use borrow.Fn.Kinds.{In}
@@ -17,13 +17,13 @@ use Rattle.form.proofs.element.Reads as element
 use Rattle.form.proofs.element.Kinds as element-kinds
 use Rattle.form.proofs.+content+element.Lts-element as element-lts
 use Rattle.form.proofs.child_at.Reads as child-at-reads
-use Rattle.scans.proofs.end_tag.Reads as end-tag-reads
-use Rattle.classes.proofs.is_letter.Reads as is-letter-reads
-use Rattle.classes.proofs.is_letter_or_digit.Reads as is-letter-or-digit-reads
-use Rattle.scans.proofs.name_end.Reads as name-end-reads
-use Rattle.scans.proofs.tag_end.Reads as tag-end-reads
+use Rattle.form_scans.proofs.end_tag.Reads as end-tag-reads
+use Rattle.form_ranks.proofs.is_letter.Reads as is-letter-reads
+use Rattle.form_ranks.proofs.is_letter_or_digit.Reads as is-letter-or-digit-reads
+use Rattle.form_scans.proofs.name_end.Reads as name-end-reads
+use Rattle.form_scans.proofs.tag_end.Reads as tag-end-reads
 use Rattle.form.proofs.text.Reads as text-reads
-use Rattle.scans.proofs.white_end.Reads as white-end-reads
+use Rattle.form_scans.proofs.white_end.Reads as white-end-reads
 use Rattle.form.proofs.+content+element.{statement}
 use Rattle.form.proofs.+content+element.Tie.{close}
 

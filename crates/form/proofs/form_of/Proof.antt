@@ -1,6 +1,6 @@
 -- `form::form_of` meets its contract: the root, and then white space up to the end of the message.
 use Rattle.form.proofs.RootLaws.{refused, accepted, trailing}
-use Rattle.scans.proofs.Laws.{reached}
+use Rattle.form_scans.proofs.Laws.{reached}
 use borrow.Author.Needs.{needs}
 use Rattle.form.proofs.form_of.Statement.{statement}
 use Rattle.form.proofs.form_of.Tie as tie

@@ -4,7 +4,7 @@ use Rattle.paper.specs.Computed.Reading.{before}
 use Rattle.paper.specs.Form.{declaration}
 use Rattle.paper.specs.Bytes.{bytes}
 use Rattle.form.proofs.RootLaws.{declared, undeclared}
-use Rattle.scans.proofs.Laws.{went, first, via}
+use Rattle.form_scans.proofs.Laws.{went, first, via}
 use borrow.Author.Needs.{needs}
 use Rattle.form.proofs.prologue.Statement.{statement}
 use Rattle.form.proofs.prologue.Tie as tie

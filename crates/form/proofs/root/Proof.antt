@@ -1,6 +1,6 @@
 -- `form::root` meets its contract: perhaps the declaration, white space, and the root.
 use Rattle.form.proofs.RootLaws.{prologue-stops, whole-root}
-use Rattle.scans.proofs.Laws.{reached}
+use Rattle.form_scans.proofs.Laws.{reached}
 use borrow.Author.Needs.{needs}
 use Rattle.form.proofs.root.Statement.{statement}
 use Rattle.form.proofs.root.Tie as tie

@@ -3,7 +3,7 @@ use native.Mathlib.Omega.{arith}
 use Rattle.paper.specs.Form.{root-tag}
 use Rattle.paper.specs.Bytes.{bytes}
 use Rattle.form.proofs.RootLaws.{root-stops, root-read}
-use Rattle.scans.proofs.Laws.{reached}
+use Rattle.form_scans.proofs.Laws.{reached}
 use borrow.Author.Needs.{needs}
 use Rattle.form.proofs.root_at.Statement.{statement}
 use Rattle.form.proofs.root_at.Tie as tie

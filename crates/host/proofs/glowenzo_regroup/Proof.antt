@@ -4,8 +4,8 @@ use Rattle.host.proofs.glowenzo_regroup.Statement.{statement}
 use Rattle.host.proofs.glowenzo_regroup.Tie as tie
 use Rattle.host.proofs.glowenzo_regroup.Reads as reads
 use Rattle.host.proofs.glowenzo_regroup.Lts as lts
-use Rattle.answers.proofs.of_regrouping.Reads as of-regrouping-reads
-use Rattle.regrouping.proofs.regroup.Reads as regroup-reads
+use Rattle.verdict_answers.proofs.of_regrouping.Reads as of-regrouping-reads
+use Rattle.move_regrouping.proofs.regroup.Reads as regroup-reads
 
 regroup-requires : tie.Need-regroup-requires
 regroup-requires c κs = search needs

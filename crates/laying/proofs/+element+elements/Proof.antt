@@ -11,7 +11,7 @@ use Rattle.laying.proofs.+element+elements.Lts-element as element-lts
 use Rattle.laying.proofs.elements.Reads as elements
 use Rattle.laying.proofs.elements.Kinds as elements-kinds
 use Rattle.laying.proofs.+element+elements.Lts-elements as elements-lts
-use Rattle.texts.proofs.byte_at.Reads as byte-at-reads
+use Rattle.leaf_texts.proofs.byte_at.Reads as byte-at-reads
 use Rattle.laying.proofs.behind.Reads as behind-reads
 use Rattle.laying.proofs.find.Reads as find-reads
 use Rattle.laying.proofs.put_down.Reads as put-down-reads

@@ -9,7 +9,7 @@ use Rattle.paper.specs.Refusals.{refuse}
 use Rattle.paper.specs.Answers.{refusal-found, refusal-of, numbered}
 use Rattle.tree.specs.Laid.{Entry, LaidAll}
 use Rattle.tree.proofs.Laws.{few-enough, next-cell, close-cell, entry-of}
-use Rattle.places.specs.Numbers.{Stands}
+use Rattle.rows_places.specs.Numbers.{Stands}
 use Rattle.rows.proofs.Walking.{it, child-entry, child-after, child-never, child-early, amount-named, child-refused, child-passed, none-remain, Remaining, all-remain, resolved, as-read, text-in-group, text-in-leaf, elements-in-group, elements-in-leaf}
 use Prim.Native.Nat.{ℕ, _<_}
 use borrow.Fn.Kinds.{In}
@@ -20,12 +20,12 @@ use Rattle.rows.proofs.+children+element.Lts-children as children-lts
 use Rattle.rows.proofs.element.Reads as element
 use Rattle.rows.proofs.element.Kinds as element-kinds
 use Rattle.rows.proofs.+children+element.Lts-element as element-lts
-use Rattle.places.proofs.ends_further.Reads as ends-further-reads
-use Rattle.contents.proofs.leaf.Reads as leaf-reads
-use Rattle.places.proofs.of_entry.Reads as of-entry-reads
-use Rattle.places.proofs.seek_further.Reads as seek-further-reads
-use Rattle.contents.proofs.text_in_group.Reads as text-in-group-reads
-use Rattle.places.proofs.wide.Reads as wide-reads
+use Rattle.rows_places.proofs.ends_further.Reads as ends-further-reads
+use Rattle.rows_contents.proofs.leaf.Reads as leaf-reads
+use Rattle.rows_places.proofs.of_entry.Reads as of-entry-reads
+use Rattle.rows_places.proofs.seek_further.Reads as seek-further-reads
+use Rattle.rows_contents.proofs.text_in_group.Reads as text-in-group-reads
+use Rattle.rows_places.proofs.wide.Reads as wide-reads
 use Rattle.tree.proofs.cell.Reads as cell-reads
 use Rattle.rows.proofs.+children+element.{statement}
 use Rattle.rows.proofs.+children+element.Tie.{close}

@@ -4,7 +4,7 @@ use Rattle.tree.proofs.is_text.Statement.{statement}
 use Rattle.tree.proofs.is_text.Tie as tie
 use Rattle.tree.proofs.is_text.Reads as reads
 use Rattle.tree.proofs.is_text.Lts as lts
-use Rattle.texts.proofs.same.Reads as same-reads
+use Rattle.leaf_texts.proofs.same.Reads as same-reads
 
 returns : tie.Need-returns
 returns c = λ f g. absurd (omega arith)

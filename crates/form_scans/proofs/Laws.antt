@@ -1,0 +1,194 @@
+-- How the machine runs on over a message in place: what one byte, the end of the message, and each loop of the code come to.
+use Prim.Native.Nat.{ℕ, suc, _+_, _-_, _≤_, _<_}
+use mathlib.Core.List.{List, [], _∷_, _++_}
+use mathlib.Core.Option.{none, some}
+use mathlib.Core.Bool.{Bool, true, false}
+use mathlib.Core.Path.{_≡_, refl, sym, ap, _∙_}
+use native.Mathlib.Numerals.{add-one}
+use native.Mathlib.Omega.{arith}
+use lib.ListN.{length, getD, take, drop, length-drop, drop-of-length-le}
+use lib.Seq.{drop-cons, take-suc, getD-drop}
+use lib.Dec.{eqb}
+use borrow.Author.Tests.{eq-eqb, ne-eqb, eqb-true, eqb-false}
+use Rattle.paper.specs.Bytes.{white, text-byte, letter-or-digit}
+use Rattle.paper.specs.Form.{Element}
+use Rattle.paper.specs.Computed.Reading.{Open, State, naming, blank, in-text, want, step, ended, run, stops-at}
+use Rattle.paper_grammar.specs.Stays.{Stays}
+use Rattle.form_scans.specs.Scans.{from, Scanned, to, stops, Through, Along, Spelt}
+use Rattle.form_scans.specs.declared.Scan.{Scan}
+use Rattle.form_scans.specs.declared.Scan.the-variants.{To, StopsAt}
+use Rattle.paper_grammar.proofs.Leads.{run-next, run-stuck}
+
+pub from-next : (s : List ℕ) (q : State) (at : ℕ) {r : State} → at < length s → step q at (getD s at 0) ≡ some r → from s q at ≡ from s r (at + 1)
+unfolding from
+from-next s q at h e = rw (drop-cons s at 0 h, add-one) (run-next q at (getD s at 0) e (drop (suc at) s))
+
+pub from-stuck : (s : List ℕ) (q : State) (at : ℕ) → at < length s → step q at (getD s at 0) ≡ none → from s q at ≡ stops-at at
+unfolding from
+from-stuck s q at h e = rw (drop-cons s at 0 h) (run-stuck q at (getD s at 0) e (drop (suc at) s))
+
+pub from-short : (s : List ℕ) (q : State) (at : ℕ) → length s ≤ at → ended q ≡ none → from s q at ≡ stops-at at
+unfolding from run
+from-short s q at h e = rw (drop-of-length-le s h, e, run)
+
+-- What is known of a scan that went on, and of one that stopped.
+pub record Reached {K A : Type 0} (s : List ℕ) (at : ℕ) (ahead : K → State) (behind : K → A → State) (p : ℕ) : Type 0 where
+  pub rises : at ≤ p
+  pub within : p ≤ length s
+  pub got : A
+  pub runs : (k : K) → from s (ahead k) at ≡ from s (behind k got) p
+
+module _ {K A : Type 0} {s : List ℕ} {at : ℕ} {ahead : K → State} {behind : K → A → State} where
+  pub went : {p : ℕ} → at ≤ p → p ≤ length s → (a : A) → ((k : K) → from s (ahead k) at ≡ from s (behind k a) p) → Scanned s at ahead behind (To p)
+  went l h a e = to l h a e
+
+  on-to : {p : ℕ} → Scanned s at ahead behind (To p) → Reached s at ahead behind p
+  on-to (to l h a e) = record { rises = l; within = h; got = a; runs = e }
+
+  stop-of : {n : ℕ} → Scanned s at ahead behind (StopsAt n) → (k : K) → from s (ahead k) at ≡ stops-at n
+  stop-of (stops e) = e
+
+  pub reached : {r : Scan} {p : ℕ} → Scanned s at ahead behind r → r ≡ To p → Reached s at ahead behind p
+  reached h e = on-to (rw e at h)
+
+  pub halted : {r : Scan} {n : ℕ} → Scanned s at ahead behind r → r ≡ StopsAt n → (k : K) → from s (ahead k) at ≡ stops-at n
+  halted h e = stop-of (rw e at h)
+
+  -- where a part stops, the whole does
+  pub halts : {B : Type 0} {other : K → B → State} {r : Scan} {n : ℕ} → Scanned s at ahead behind r → r ≡ StopsAt n
+      → Scanned s at ahead other (StopsAt n)
+  halts h e = stops (halted h e)
+
+  -- what comes first may be told apart
+  pub first : {earlier : K → State} {m : ℕ} {r : Scan} → m ≤ at → ((k : K) → from s (earlier k) m ≡ from s (ahead k) at) → Scanned s at ahead behind r
+      → Scanned s m earlier behind r
+  first {m} l f (to {p} l′ h a e) = let z : m ≤ p = omega arith in to z h a (λ k. f k ∙ e k)
+  first l f (stops e) = stops (λ k. f k ∙ e k)
+
+  -- what was got may be told in another way
+  pub giving : {B : Type 0} {other : K → B → State} (f : A → B) → ((k : K) (a : A) → behind k a ≡ other k (f a)) → {r : Scan}
+      → Scanned s at ahead behind r → Scanned s at ahead other r
+  giving f g (to {p} l h a e) = to l h (f a) (λ k. e k ∙ ap (λ q. from s q p) (g k a))
+  giving f g (stops e) = stops e
+
+  -- what is to come may be told more closely
+  pub via : {L : Type 0} (f : L → K) {r : Scan} → Scanned s at ahead behind r → Scanned s at (λ l. ahead (f l)) (λ l. behind (f l)) r
+  via f (to l h a e) = to l h a (λ k. e (f k))
+  via f (stops e) = stops (λ k. e (f k))
+
+-- one part after the other
+pub chain : {K A B : Type 0} {s : List ℕ} {at : ℕ} {ahead : K → State} {behind : K → A → State} {last : K → B → State} {r z : Scan} {p : ℕ}
+    → Scanned s at ahead behind r → r ≡ To p → ((a : A) → Scanned s p (λ k. behind k a) last z) → Scanned s at ahead last z
+chain h e f = let g = reached h e in first (g .rises) (g .runs) (f (g .got))
+
+-- fixed bytes
+pub want-step : (c : ℕ) (cs : List ℕ) (q : State) (at b : ℕ) → b ≡ c → step (want (c ∷ cs) q) at b ≡ some (want cs q)
+unfolding step want
+want-step c [] q at b e = rw (eq-eqb b c e)
+want-step c (d ∷ ds) q at b e = rw (eq-eqb b c e)
+
+pub want-stuck : (c : ℕ) (cs : List ℕ) (q : State) (at b : ℕ) → (b ≡ c → ⊥) → step (want (c ∷ cs) q) at b ≡ none
+unfolding step want
+want-stuck c [] q at b e = rw (ne-eqb b c e)
+want-stuck c (d ∷ ds) q at b e = rw (ne-eqb b c e)
+
+module _ (s w : List ℕ) (i p : ℕ) (q : State) where
+  pub word-next : i < length w → p < length s → getD s p 0 ≡ getD w i 0 → from s (want (drop i w) q) p ≡ from s (want (drop (i + 1) w) q) (p + 1)
+  word-next h k e = rw (drop-cons w i 0 h, add-one i) (from-next s _ p k (want-step (getD w i 0) (drop (suc i) w) q p (getD s p 0) e))
+
+  pub word-stuck : i < length w → p < length s → (getD s p 0 ≡ getD w i 0 → ⊥) → from s (want (drop i w) q) p ≡ stops-at p
+  word-stuck h k e = rw (drop-cons w i 0 h) (from-stuck s _ p k (want-stuck (getD w i 0) (drop (suc i) w) q p (getD s p 0) e))
+
+  pub word-short : i < length w → length s ≤ p → from s (want (drop i w) q) p ≡ stops-at p
+  unfolding want ended
+  word-short h k = rw (drop-cons w i 0 h) (from-short s _ p k refl)
+
+  pub word-end : length w ≤ i → from s (want (drop i w) q) p ≡ from s q p
+  unfolding want
+  word-end h = rw (drop-of-length-le w h)
+
+-- bytes one after the other
+want-append-run : (v w : List ℕ) (q : State) (at : ℕ) (s : List ℕ) → run (want (v ++ w) q) at s ≡ run (want v (want w q)) at s
+unfolding want run ended
+want-append-run [] w q at s = refl
+want-append-run (c ∷ cs) w q at [] = refl
+want-append-run (c ∷ cs) w q at (b ∷ s) = go (eqb b c) refl (want-append-run cs w q (suc at) s)
+  where
+    go : (t : Bool) → eqb b c ≡ t → run (want (cs ++ w) q) (suc at) s ≡ run (want cs (want w q)) (suc at) s
+        → run (want (c ∷ (cs ++ w)) q) at (b ∷ s) ≡ run (want (c ∷ cs) (want w q)) at (b ∷ s)
+    go true t ih = let e = eqb-true b c t in run-next _ at b (want-step c (cs ++ w) q at b e) s ∙ (ih ∙ sym (run-next _ at b (want-step c cs (want w q) at b e) s))
+    go false t ih = let n = eqb-false b c t in run-stuck _ at b (want-stuck c (cs ++ w) q at b n) s ∙ sym (run-stuck _ at b (want-stuck c cs (want w q) at b n) s)
+
+pub want-append : (s v w : List ℕ) (at : ℕ) (q : State) → from s (want (v ++ w) q) at ≡ from s (want v (want w q)) at
+unfolding from
+want-append s v w at q = want-append-run v w q at (drop at s)
+
+-- white space
+pub through-start : (s : List ℕ) (at : ℕ) → at ≤ length s → Through s at at
+through-start s at h = record { rises = omega arith; within = h; stays = λ q _. refl; blanks = λ o w. (w, λ k. refl) }
+
+blank-step : (o : Open) (w : List ℕ) (k : Element → State) (at b : ℕ) → white b ≡ true → step (blank o w k) at b ≡ some (blank o (w ++ (b ∷ [])) k)
+unfolding step
+blank-step o w k at b e = rw e
+
+pub through-next : {s : List ℕ} {at : ℕ} (i : ℕ) → Through s at i → i < length s → white (getD s i 0) ≡ true → Through s at (i + 1)
+unfolding Stays
+through-next {s} {at} i t h e = record {
+  rises = omega arith;
+  within = omega arith;
+  stays = λ q f. t .stays q f ∙ from-next s q i h (f i (getD s i 0) e);
+  blanks = λ o w. let (w′, f) = t .blanks o w in (w′ ++ (getD s i 0 ∷ []), λ k. f k ∙ from-next s _ i h (blank-step o w′ k i (getD s i 0) e));
+}
+
+-- text
+pub along-start : (s : List ℕ) (at : ℕ) → at ≤ length s → Along s at at
+along-start s at h = record { rises = omega arith; within = h; texts = λ o w. (w, λ k. refl) }
+
+pub text-step : (o : Open) (w : List ℕ) (k : Element → State) (at b : ℕ) → text-byte b ≡ true → step (in-text o w k) at b ≡ some (in-text o (w ++ (b ∷ [])) k)
+unfolding step
+text-step o w k at b e = rw e
+
+pub along-next : {s : List ℕ} {at : ℕ} (i : ℕ) → Along s at i → i < length s → text-byte (getD s i 0) ≡ true → Along s at (i + 1)
+along-next {s} {at} i t h e = record {
+  rises = omega arith;
+  within = omega arith;
+  texts = λ o w. let (w′, f) = t .texts o w in (w′ ++ (getD s i 0 ∷ []), λ k. f k ∙ from-next s _ i h (text-step o w′ k i (getD s i 0) e));
+}
+
+-- a name
+pub spelt-start : (s : List ℕ) (at : ℕ) → at < length s → Spelt s at (at + 1)
+spelt-start s at h =
+    let one : at + 1 - at ≡ 1 = omega arith in
+    let room : at + 32 - (at + 1) ≡ 31 = omega arith in
+    record {
+      rises = omega arith;
+      within = omega arith;
+      short = omega arith;
+      names = λ depth lt k. rw (one, room, drop-cons s at 0 h);
+    }
+
+name-step : (depth lt : ℕ) (name : List ℕ) (room : ℕ) (k : Element → State) (at b : ℕ) → letter-or-digit b ≡ true
+    → step (naming depth lt name (suc room) k) at b ≡ some (naming depth lt (name ++ (b ∷ [])) room k)
+unfolding step
+name-step depth lt name room k at b e = rw e
+
+longer : (s : List ℕ) (at i : ℕ) → at ≤ i → i < length s → take (i + 1 - at) (drop at s) ≡ take (i - at) (drop at s) ++ (getD s i 0 ∷ [])
+longer s at i l h =
+    let m : i + 1 - at ≡ suc (i - at) = omega arith in
+    let j : at + (i - at) ≡ i = omega arith in
+    rw (m, take-suc (drop at s) (i - at) 0 (rw length-drop (omega arith)), getD-drop at s (i - at) 0, j)
+
+pub spelt-next : {s : List ℕ} {at : ℕ} (i : ℕ) → Spelt s at i → i < length s → (i ≡ at + 32 → ⊥) → letter-or-digit (getD s i 0) ≡ true → Spelt s at (i + 1)
+spelt-next {s} {at} i t h n e =
+    let a = t .rises in
+    let z = t .short in
+    let room : at + 32 - i ≡ suc (at + 32 - (i + 1)) = omega arith in
+    record {
+      rises = omega arith;
+      within = omega arith;
+      short = omega arith;
+      names = λ depth lt k.
+          t .names depth lt k
+          ∙ rw (longer s at i (omega arith) h, room)
+          (from-next s _ i h (name-step depth lt (take (i - at) (drop at s)) (at + 32 - (i + 1)) k i (getD s i 0) e));
+    }

@@ -1,0 +1,199 @@
+use mathlib.Core.Path.{refl}
+use denote.Ref.{now}
+use Rattle.move_regrouping.proofs.Laws.{NotTwenty, part-of-20, no-part, empty-part, that-part}
+use borrow.Author.Needs.{needs}
+use Rattle.move_regrouping.proofs.differing.Statement.{statement}
+use Rattle.move_regrouping.proofs.differing.Tie as tie
+use Rattle.move_regrouping.proofs.differing.Reads as reads
+use Rattle.move_regrouping.proofs.differing.Lts as lts
+use Rattle.verdict_reader.proofs.field.Reads as field-reads
+use Rattle.move_regrouping.proofs.regroup.Reads as regroup-reads
+
+regroup-requires : tie.Need-regroup-requires
+regroup-requires c κs = search needs
+
+enum-known-answer : tie.Need-enum-known-answer
+enum-known-answer c = search needs
+
+field-requires : tie.Need-field-requires
+field-requires c κs = search needs
+
+enum-told : tie.Need-enum-told
+enum-told c = search needs
+
+sub-result : tie.Need-sub-result
+sub-result c = search needs
+
+part-result-start : tie.Need-part-result-start
+part-result-start c = search needs
+
+part-result-end : tie.Need-part-result-end
+part-result-end c = search needs
+
+enum-told-2 : tie.Need-enum-told-2
+enum-told-2 c = search needs
+
+sub-result-2 : tie.Need-sub-result-2
+sub-result-2 c = search needs
+
+part-result-start-2 : tie.Need-part-result-start-2
+part-result-start-2 c = search needs
+
+part-result-end-2 : tie.Need-part-result-end-2
+part-result-end-2 c = search needs
+
+enum-told-3 : tie.Need-enum-told-3
+enum-told-3 c = search needs
+
+sub-result-3 : tie.Need-sub-result-3
+sub-result-3 c = search needs
+
+part-result-start-3 : tie.Need-part-result-start-3
+part-result-start-3 c = search needs
+
+part-result-end-3 : tie.Need-part-result-end-3
+part-result-end-3 c = search needs
+
+enum-told-4 : tie.Need-enum-told-4
+enum-told-4 c = search needs
+
+sub-result-4 : tie.Need-sub-result-4
+sub-result-4 c = search needs
+
+part-result-start-4 : tie.Need-part-result-start-4
+part-result-start-4 c = search needs
+
+part-result-end-4 : tie.Need-part-result-end-4
+part-result-end-4 c = search needs
+
+enum-told-5 : tie.Need-enum-told-5
+enum-told-5 c = search needs
+
+sub-result-5 : tie.Need-sub-result-5
+sub-result-5 c = search needs
+
+part-result-start-5 : tie.Need-part-result-start-5
+part-result-start-5 c = search needs
+
+part-result-end-5 : tie.Need-part-result-end-5
+part-result-end-5 c = search needs
+
+enum-told-6 : tie.Need-enum-told-6
+enum-told-6 c = search needs
+
+sub-result-6 : tie.Need-sub-result-6
+sub-result-6 c = search needs
+
+part-result-start-6 : tie.Need-part-result-start-6
+part-result-start-6 c = search needs
+
+part-result-end-6 : tie.Need-part-result-end-6
+part-result-end-6 c = search needs
+
+enum-told-7 : tie.Need-enum-told-7
+enum-told-7 c = search needs
+
+sub-result-7 : tie.Need-sub-result-7
+sub-result-7 c = search needs
+
+part-result-start-7 : tie.Need-part-result-start-7
+part-result-start-7 c = search needs
+
+part-result-end-7 : tie.Need-part-result-end-7
+part-result-end-7 c = search needs
+
+enum-told-8 : tie.Need-enum-told-8
+enum-told-8 c = search needs
+
+sub-result-8 : tie.Need-sub-result-8
+sub-result-8 c = search needs
+
+part-result-start-8 : tie.Need-part-result-start-8
+part-result-start-8 c = search needs
+
+part-result-end-8 : tie.Need-part-result-end-8
+part-result-end-8 c = search needs
+
+returns : tie.Need-returns
+returns c = that-part (part-of-20 (now (c .before .before .before .before .before .before .before .before .args .first)) (now (c .before .before .before .before .before .before .before .before .args .second)) (now (c .before .before .before .before .before .before .before .before .args .list)) (c .before .before .before .before .regroup .ensures) (c .before .before .answer .given .1)) (c .field .ensures)
+
+returns-2 : tie.Need-returns-2
+unfolding NotTwenty
+returns-2 c = empty-part (no-part (now (c .before .before .before .before .before .before .before .args .first)) (now (c .before .before .before .before .before .before .before .args .second)) (now (c .before .before .before .before .before .before .before .args .list)) (c .before .before .before .regroup .ensures) (c .before .enum-told .given .1) tt) (record { bytes-are = refl; in-the-message = refl; at-its-place = search needs })
+
+returns-3 : tie.Need-returns-3
+unfolding NotTwenty
+returns-3 c = empty-part (no-part (now (c .before .before .before .before .before .before .before .args .first)) (now (c .before .before .before .before .before .before .before .args .second)) (now (c .before .before .before .before .before .before .before .args .list)) (c .before .before .before .regroup .ensures) (c .before .enum-told2 .given .1) tt) (record { bytes-are = refl; in-the-message = refl; at-its-place = search needs })
+
+returns-4 : tie.Need-returns-4
+unfolding NotTwenty
+returns-4 c = empty-part (no-part (now (c .before .before .before .before .before .before .before .args .first)) (now (c .before .before .before .before .before .before .before .args .second)) (now (c .before .before .before .before .before .before .before .args .list)) (c .before .before .before .regroup .ensures) (c .before .enum-told3 .given .1) tt) (record { bytes-are = refl; in-the-message = refl; at-its-place = search needs })
+
+returns-5 : tie.Need-returns-5
+unfolding NotTwenty
+returns-5 c = empty-part (no-part (now (c .before .before .before .before .before .before .before .args .first)) (now (c .before .before .before .before .before .before .before .args .second)) (now (c .before .before .before .before .before .before .before .args .list)) (c .before .before .before .regroup .ensures) (c .before .enum-told4 .given .1) tt) (record { bytes-are = refl; in-the-message = refl; at-its-place = search needs })
+
+returns-6 : tie.Need-returns-6
+unfolding NotTwenty
+returns-6 c = empty-part (no-part (now (c .before .before .before .before .before .before .before .args .first)) (now (c .before .before .before .before .before .before .before .args .second)) (now (c .before .before .before .before .before .before .before .args .list)) (c .before .before .before .regroup .ensures) (c .before .enum-told5 .given .1) tt) (record { bytes-are = refl; in-the-message = refl; at-its-place = search needs })
+
+returns-7 : tie.Need-returns-7
+unfolding NotTwenty
+returns-7 c = empty-part (no-part (now (c .before .before .before .before .before .before .before .args .first)) (now (c .before .before .before .before .before .before .before .args .second)) (now (c .before .before .before .before .before .before .before .args .list)) (c .before .before .before .regroup .ensures) (c .before .enum-told6 .given .1) tt) (record { bytes-are = refl; in-the-message = refl; at-its-place = search needs })
+
+returns-8 : tie.Need-returns-8
+unfolding NotTwenty
+returns-8 c = empty-part (no-part (now (c .before .before .before .before .before .before .before .args .first)) (now (c .before .before .before .before .before .before .before .args .second)) (now (c .before .before .before .before .before .before .before .args .list)) (c .before .before .before .regroup .ensures) (c .before .enum-told7 .given .1) tt) (record { bytes-are = refl; in-the-message = refl; at-its-place = search needs })
+
+returns-9 : tie.Need-returns-9
+unfolding NotTwenty
+returns-9 c = empty-part (no-part (now (c .before .before .before .before .before .before .before .args .first)) (now (c .before .before .before .before .before .before .before .args .second)) (now (c .before .before .before .before .before .before .before .args .list)) (c .before .before .before .regroup .ensures) (c .before .enum-told8 .given .1) tt) (record { bytes-are = refl; in-the-message = refl; at-its-place = search needs })
+
+pub differing-spec : {M : Type 1} → statement M
+differing-spec =
+    tie.close
+    (tie.spec
+    regroup-requires
+    enum-known-answer
+    field-requires
+    enum-told
+    sub-result
+    part-result-start
+    part-result-end
+    enum-told-2
+    sub-result-2
+    part-result-start-2
+    part-result-end-2
+    enum-told-3
+    sub-result-3
+    part-result-start-3
+    part-result-end-3
+    enum-told-4
+    sub-result-4
+    part-result-start-4
+    part-result-end-4
+    enum-told-5
+    sub-result-5
+    part-result-start-5
+    part-result-end-5
+    enum-told-6
+    sub-result-6
+    part-result-start-6
+    part-result-end-6
+    enum-told-7
+    sub-result-7
+    part-result-start-7
+    part-result-end-7
+    enum-told-8
+    sub-result-8
+    part-result-start-8
+    part-result-end-8
+    returns
+    returns-2
+    returns-3
+    returns-4
+    returns-5
+    returns-6
+    returns-7
+    returns-8
+    returns-9)

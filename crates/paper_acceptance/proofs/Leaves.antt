@@ -1,0 +1,189 @@
+-- In a message that keeps the rows the pairs of the table and the fields are leaves, but for the fifth pair, which is a group. So the part of a field has the field's text.
+use Prim.Native.Nat.{ℕ, zero, suc}
+use mathlib.Core.List.{List, [], _∷_, map}
+use mathlib.Core.Bool.{Bool, true, false, _&&_}
+use mathlib.Core.Option.{Option, none, some}
+use mathlib.Core.Path.{_≡_, refl, sym, ap, _∙_}
+use lib.ListN.{take, drop, getD}
+use Rattle.paper.specs.Bytes.{bytes}
+use Rattle.paper.specs.Form.{Head, Element, holding-text, holding-elements}
+use Rattle.paper.specs.Rows.{Contents, text, elements, Row, leaf, group, group-under, rows, row-of, Arranged, Conforms, Conform}
+use Rattle.paper.specs.Values.{among}
+use Rattle.paper.specs.Payments.{Payment, text-of, follow, payments, in-payment, in-block, either-of, inherited}
+use Rattle.paper.specs.Refusals.{accepted-with, rows-at, outcome-alone}
+use Rattle.paper.specs.Table.{part-of, pairs}
+use Rattle.paper.specs.Fields.{Field, plain, or-means, amount-field, remittance, fields, field-element, field-of}
+use Rattle.paper.specs.Accepted.{All, all-none, all-more, EachWith, each-none, each-more, AnyText, RowsKept, Accepted}
+use Rattle.paper.specs.Regrouping.{At, at-first, at-later}
+use Rattle.paper.proofs.Laws.{false-not-true, some-not-none, both-left, both-right, all-member, all-from}
+use Rattle.paper_acceptance.proofs.Arranged.{rows-of}
+use Rattle.paper_acceptance.proofs.Routes.{takes, steps, follow-conforms, EndsAs}
+use Rattle.paper_acceptance.proofs.Proper.{rows-proper}
+use Rattle.paper_acceptance.proofs.Present.{As, PaymentAs, payments-as}
+use Rattle.paper_acceptance.proofs.Accepts.{accepted-from}
+use Rattle.paper_acceptance.proofs.Texts.{Stands, PaymentInPlace, payments-in-place, pairs-stand, fields-stand, part-is-text}
+
+-- of an element that may be absent: if it is there, it is a leaf
+pub data LeafOrNone : Option Element → Type 0 where
+  nothing-there : LeafOrNone none
+  a-leaf : {h : Head} {w : List ℕ} → LeafOrNone (some (holding-text h w))
+
+either-leaf : {o q : Option Element} → LeafOrNone o → LeafOrNone q → LeafOrNone (either-of o q)
+unfolding either-of
+either-leaf nothing-there k = k
+either-leaf a-leaf k = a-leaf
+
+-- the pairs of the table that are leaves
+unfoldable pub leaf-pairs : List Bool
+leaf-pairs = true ∷ true ∷ true ∷ true ∷ false ∷ true ∷ []
+
+-- a route leads to a leaf, if it leads anywhere, as a test
+unfoldable holds-text : Contents → Bool
+holds-text (text longest) = true
+holds-text (elements places) = false
+
+unfoldable ends-in-text : List Row → (parent k : ℕ) → List ℕ → Bool
+ends-in-text profile parent k [] = holds-text (row-of profile parent k .holds)
+ends-in-text profile parent k (j ∷ js) = ends-in-text profile k j js
+
+abbrev leaf-route : (parent k : ℕ) → List ℕ → Bool
+leaf-route parent k route = steps rows parent k route && ends-in-text rows parent k route
+
+text-leaf : (t : Element) (parent : ℕ) (r : Row) → holds-text (r .holds) ≡ true → Conforms rows AnyText t parent r → LeafOrNone (some t)
+unfolding Conforms holds-text
+text-leaf (holding-text h w) parent r e c = a-leaf
+text-leaf (holding-elements h ts) parent r e c = absurd (go (r .holds) e c)
+  where
+    go : (holds : Contents) → holds-text holds ≡ true
+        → (elim holds as (λ _. Type 0) [ text longest ↦ ⊥ | elements places ↦ (ks : List ℕ) × Arranged places ks × Conform rows AnyText ts (r .row) ks ]) → ⊥
+    go (text longest) e c = c
+    go (elements places) e c = false-not-true e
+
+ends-as-leaf : (parent k : ℕ) (route : List ℕ) (u : Element) → ends-in-text rows parent k route ≡ true → EndsAs rows AnyText parent k route u → LeafOrNone (some u)
+unfolding ends-in-text EndsAs
+ends-as-leaf parent k [] u e c = text-leaf u parent (row-of rows parent k) e c
+ends-as-leaf parent k (j ∷ js) u e c = ends-as-leaf k j js u e c
+
+route-leaf : (parent k : ℕ) (route : List ℕ) (t : Element) → leaf-route parent k route ≡ true → As rows rows-proper AnyText parent k t → LeafOrNone (follow route t)
+route-leaf parent k route t e c = go (follow route t) refl
+  where
+    go : (o : Option Element) → follow route t ≡ o → LeafOrNone o
+    go none f = nothing-there
+    go (some u) f =
+        ends-as-leaf parent k route u (both-right (steps rows parent k route) _ e)
+        (follow-conforms rows AnyText (rows-proper .apart) parent k route t u (both-left (steps rows parent k route) _ e) c f)
+
+module _ (p : Payment) (c : PaymentAs rows rows-proper AnyText p) where
+  own-leaf : (route : List ℕ) → leaf-route 10 37 route ≡ true → LeafOrNone (in-payment route p)
+  unfolding in-payment
+  own-leaf route e = route-leaf 10 37 route (p .own) e (c .own-as)
+
+  block-leaf : (route : List ℕ) → leaf-route 2 10 route ≡ true → LeafOrNone (in-block route p)
+  unfolding in-block
+  block-leaf route e = route-leaf 2 10 route (p .block) e (c .block-as)
+
+  inherited-leaf : (route : List ℕ) → leaf-route 10 37 route ≡ true → leaf-route 2 10 route ≡ true → LeafOrNone (inherited route p)
+  unfolding inherited
+  inherited-leaf route e f = either-leaf (own-leaf route e) (block-leaf route f)
+
+  fields-leaves : All (λ f. LeafOrNone (f .element)) (fields p)
+  unfolding fields plain or-means amount-field remittance rows row-of leaf group group-under bytes takes rows-of rows-at among steps ends-in-text holds-text
+  fields-leaves =
+      all-more (block-leaf _ refl)
+      (all-more (inherited-leaf _ refl refl)
+      (all-more (inherited-leaf _ refl refl)
+      (all-more (block-leaf _ refl)
+      (all-more (block-leaf _ refl)
+      (all-more (block-leaf _ refl)
+      (all-more (either-leaf (block-leaf _ refl) (block-leaf _ refl))
+      (all-more (inherited-leaf _ refl refl)
+      (all-more (own-leaf _ refl)
+      (all-more (own-leaf _ refl)
+      (all-more (own-leaf _ refl)
+      (all-more (own-leaf _ refl)
+      (all-more (own-leaf _ refl)
+      (all-more (own-leaf _ refl)
+      (all-more (own-leaf _ refl)
+      (all-more (own-leaf _ refl)
+      (all-more (either-leaf (own-leaf _ refl) (own-leaf _ refl)) all-none))))))))))))))))
+
+  -- of the pairs of the table, all but the fifth
+  pairs-leaves : EachWith (λ b o. b ≡ true → LeafOrNone o) leaf-pairs (pairs p)
+  unfolding leaf-pairs pairs rows row-of leaf group group-under bytes takes rows-of rows-at among steps ends-in-text holds-text
+  pairs-leaves =
+      each-more (λ _. own-leaf _ refl)
+      (each-more (λ _. own-leaf _ refl)
+      (each-more (λ _. own-leaf _ refl)
+      (each-more (λ _. inherited-leaf _ refl refl)
+      (each-more (λ e. false-not-true e)
+      (each-more (λ _. block-leaf _ refl) each-none)))))
+
+-- The bytes of the part that an element holds are its text; of one that is absent nothing is said.
+pub record HasText (s : List ℕ) (o : Option Element) : Type 0 where
+  pub bytes-are : (t : Element) → o ≡ some t → take (part-of o .size) (drop (part-of o .start) s) ≡ text-of t
+
+nothing-has : {s : List ℕ} → HasText s none
+nothing-has = record { bytes-are = λ t e. some-not-none (sym e) }
+
+leaf-has : {s : List ℕ} {o : Option Element} → Stands s o → LeafOrNone o → HasText s o
+leaf-has i nothing-there = nothing-has
+leaf-has {s} i (a-leaf {h} {w}) = record { bytes-are = λ t e. let g : holding-text h w ≡ t = cc in part-is-text i .bytes-are h w refl ∙ own-text ∙ ap text-of g }
+  where
+    own-text : w ≡ text-of (holding-text h w)
+    own-text = unfold text-of in refl
+
+-- So it is, in an accepted message, of each payment's fields and of its pairs but the fifth.
+pub record PaymentTexts (s : List ℕ) (p : Payment) : Type 0 where
+  pub of-pairs : EachWith (λ b o. b ≡ true → HasText s o) leaf-pairs (pairs p)
+  pub of-fields : All (λ f. HasText s (f .element)) (fields p)
+
+pairs-have : {s : List ℕ} {bs : List Bool} {os : List (Option Element)} → All (Stands s) os → EachWith (λ b o. b ≡ true → LeafOrNone o) bs os
+    → EachWith (λ b o. b ≡ true → HasText s o) bs os
+pairs-have all-none each-none = each-none
+pairs-have (all-more i h) (each-more l k) = each-more (λ e. leaf-has i (l e)) (pairs-have h k)
+
+fields-have : {s : List ℕ} {fs : List Field} → All (λ f. Stands s (f .element)) fs → All (λ f. LeafOrNone (f .element)) fs → All (λ f. HasText s (f .element)) fs
+fields-have all-none all-none = all-none
+fields-have (all-more i h) (all-more l k) = all-more (leaf-has i l) (fields-have h k)
+
+pub accepted-texts : {s : List ℕ} {root : Element} → outcome-alone rows s ≡ accepted-with root → All (PaymentTexts s) (payments root)
+unfolding accepted-from RowsKept
+accepted-texts {s} {root} o =
+    all-from (λ p m. texts p (all-member (payments-in-place (accepted .form)) m) (all-member (payments-as rows rows-proper AnyText root (accepted .tree .but-counts .rows)) m))
+  where
+    accepted : Accepted rows s
+    accepted = accepted-from rows rows-proper s root o
+
+    texts : (p : Payment) → PaymentInPlace s p → PaymentAs rows rows-proper AnyText p → PaymentTexts s p
+    texts p i c = record { of-pairs = pairs-have (pairs-stand p i) (pairs-leaves p c); of-fields = fields-have (fields-stand p i) (fields-leaves p c) }
+
+-- What holds of each field of a payment, and of nothing, holds of the field that a number asks for.
+of-field : (P : Option Element → Type 0) → P none → (field : ℕ) (p : Payment) → All (λ f. P (f .element)) (fields p) → P (field-element field p)
+unfolding field-element
+of-field P z field p h = picked field (all-more z (elements-of h))
+  where
+    elements-of : {fs : List Field} → All (λ f. P (f .element)) fs → All P (map (λ f. f .element) fs)
+    elements-of all-none = all-none
+    elements-of (all-more h k) = all-more h (elements-of k)
+
+    picked : (n : ℕ) {os : List (Option Element)} → All P os → P (getD os n none)
+    picked n all-none = z
+    picked zero (all-more h k) = h
+    picked (suc n) (all-more h k) = picked n k
+
+-- the payment at a place, and the part of its field
+at-place : {P : Payment → Type 0} {ps : List Payment} {k : ℕ} {p : Payment} → All P ps → At ps k p → P p
+at-place (all-more h k) at-first = h
+at-place (all-more h k) (at-later a) = at-place k a
+
+field-part-is : {ps : List Payment} {k : ℕ} {p : Payment} (field : ℕ) → At ps k p → field-of ps k field ≡ part-of (field-element field p)
+unfolding field-of
+field-part-is field at-first = refl
+field-part-is field (at-later a) = field-part-is field a
+
+-- The part of a field, by the payment's and the field's number: its bytes are the text of the field's element.
+pub accepted-field-text : (s : List ℕ) {root : Element} → outcome-alone rows s ≡ accepted-with root → (k field : ℕ) {p : Payment} {t : Element}
+    → At (payments root) k p → field-element field p ≡ some t
+    → take (field-of (payments root) k field .size) (drop (field-of (payments root) k field .start) s) ≡ text-of t
+accepted-field-text s o k field {p} {t} a e =
+    rw (field-part-is field a) (of-field (HasText s) nothing-has field p (at-place (accepted-texts o) a .of-fields) .bytes-are t e)

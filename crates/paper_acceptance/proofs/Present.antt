@@ -1,0 +1,201 @@
+-- What stands in a message whose root conforms to the rows: its blocks and payments, the leaves that must be there, and the pairs of the table.
+use Prim.Native.Nat.{ℕ, suc}
+use mathlib.Core.List.{List, [], _∷_, _++_, map, List·Memᴰ, List·Memᴰ·cases-cons, List·Memᴰ·eq-of-singleton}
+use mathlib.Core.Bool.{Bool, true, false}
+use mathlib.Core.Option.{Option, none, some}
+use mathlib.Core.Path.{_≡_, refl, sym, ap, _∙_, subst}
+use mathlib.Core.Logic.{⊎-elim, _⊎_, inl, inr}
+use Rattle.paper.specs.Form.{Head, Element}
+use Rattle.paper.specs.Rows.{Row, row-of, Conforms}
+use Rattle.paper.specs.Payments.{Payment, all-of, child, follow, blocks, of-header, header-count, header-sum, block-id, block-count, block-sum, instructed-amount, payments, payments-of, payments-from, in-payment, in-block, either-of, inherited}
+use Rattle.paper.specs.Fields.{plain, or-means, amount-field, remittance, fields}
+use Rattle.paper.specs.Table.{pairs, must-be-there, PairsThere}
+use Rattle.paper.specs.Accepted.{All, all-none, all-more, EachWith, each-none, each-more, There, AnyText, RowsKept, Used, UsageKept, AcceptedTree}
+use Rattle.paper.proofs.Laws.{false-not-true, some-not-none, both-left, both-right, all-joined, all-map}
+use Rattle.paper_acceptance.proofs.Routes.{steps, step-all, choice-there, follow-conforms, follow-there, EndsAs}
+use Rattle.paper_acceptance.proofs.Proper.{leads, Proper}
+
+module _ (profile : List Row) (proper : Proper profile) (Right : (parent : ℕ) → Row → Head → List ℕ → Type 0) where
+  -- an element that conforms to row k under a parent
+  abbrev pub As : (parent k : ℕ) → Element → Type 0
+  As parent k t = Conforms profile Right t parent (row-of profile parent k)
+
+  pub stands : (parent k : ℕ) (route : List ℕ) (t : Element) → leads profile parent k route ≡ true → As parent k t → There (follow route t)
+  stands parent k route t e c =
+      follow-there profile Right (proper .apart) parent k route t (both-left (steps profile parent k route) _ e) (both-right (steps profile parent k route) _ e) c
+
+  pub ends-as : (parent k : ℕ) (route : List ℕ) (t u : Element) → leads profile parent k route ≡ true → As parent k t → follow route t ≡ some u
+      → EndsAs profile Right parent k route u
+  ends-as parent k route t u e c f = follow-conforms profile Right (proper .apart) parent k route t u (both-left (steps profile parent k route) _ e) c f
+
+  -- a payment's own element and its block's
+  pub record PaymentAs (p : Payment) : Type 0 where
+    pub own-as : As 10 37 (p .own)
+    pub block-as : As 2 10 (p .block)
+
+  mapped : (n : ℕ) (b : Element) → As 2 10 b → {ts : List Element} → All (As 10 37) ts → All PaymentAs (map (λ t. record { own = t; block = b; block-number = n }) ts)
+  mapped n b c all-none = all-none
+  mapped n b c (all-more h k) = all-more (record { own-as = h; block-as = c }) (mapped n b c k)
+
+  payments-as-from : (n : ℕ) {bs : List Element} → All (As 2 10) bs → All PaymentAs (payments-from n bs)
+  unfolding payments-from payments-of steps
+  payments-as-from n all-none = all-none
+  payments-as-from n (all-more {a = b} h k) =
+      all-joined (mapped n b h (step-all profile Right (proper .apart) 2 10 37 b (both-left _ _ (proper .to-payments)) h)) (payments-as-from (suc n) k)
+
+  module _ (root : Element) (conforms : As 0 1 root) where
+    pub blocks-as : All (As 2 10) (blocks root)
+    unfolding blocks steps EndsAs follow
+    blocks-as = go (child 2 root) refl
+      where
+        go : (o : Option Element) → child 2 root ≡ o → All (As 2 10) (elim o [ none ↦ [] | some order ↦ all-of 10 order ])
+        go none e = all-none
+        go (some order) e =
+            step-all profile Right (proper .apart) 1 2 10 order (both-left _ _ (proper .to-blocks))
+            (follow-conforms profile Right (proper .apart) 0 1 (2 ∷ []) root order (proper .to-order) conforms (there e))
+          where
+            there : {o : Option Element} → o ≡ some order → _≡_ {A = Option Element} (elim o [ none ↦ none | some v ↦ some v ]) (some order)
+            there e = rw e
+
+    pub payments-as : All PaymentAs (payments root)
+    unfolding payments
+    payments-as = payments-as-from 0 blocks-as
+
+-- A child is at the end of a route of one row, and back.
+pub follow-one : (k : ℕ) (t u : Element) → child k t ≡ some u → follow (k ∷ []) t ≡ some u
+unfolding follow
+follow-one k t u e = go e
+  where
+    go : {o : Option Element} → o ≡ some u → _≡_ {A = Option Element} (elim o [ none ↦ none | some v ↦ some v ]) (some u)
+    go e = rw e
+
+child-of : (k : ℕ) (t : Element) → There (follow (k ∷ []) t) → There (child k t)
+unfolding follow
+child-of k t h = go (child k t) refl (h .is-it)
+  where
+    go : (o : Option Element) → child k t ≡ o → _≡_ {A = Option Element} (elim o [ none ↦ none | some u ↦ some u ]) (some (h .it)) → There (child k t)
+    go none e f = some-not-none (sym f)
+    go (some u) e f = record { it = u; is-it = e }
+
+-- The leaves that the rules speak of are there in every message that keeps the rows.
+pub record LeavesThere (root : Element) : Type 0 where
+  pub count-there : There (header-count root)
+  pub sum-there : There (header-sum root)
+  pub id-of-each : All (λ b. There (block-id b)) (blocks root)
+  pub count-of-each : All (λ b. There (block-count b)) (blocks root)
+  pub sum-of-each : All (λ b. There (block-sum b)) (blocks root)
+  pub amount-of-each : All (λ p. There (instructed-amount (p .own))) (payments root)
+
+pub leaves-there : (profile : List Row) → Proper profile → (root : Element) → RowsKept profile root → LeavesThere root
+unfolding RowsKept of-header
+leaves-there profile proper root kept =
+    record {
+      count-there = stands profile proper AnyText 0 1 (2 ∷ 3 ∷ 6 ∷ []) root (proper .header-count) kept;
+      sum-there = stands profile proper AnyText 0 1 (2 ∷ 3 ∷ 7 ∷ []) root (proper .header-sum) kept;
+      id-of-each = each-block (λ b c. child-of 11 b (stands profile proper AnyText 2 10 (11 ∷ []) b (proper .block-id) c));
+      count-of-each = each-block (λ b c. child-of 14 b (stands profile proper AnyText 2 10 (14 ∷ []) b (proper .block-count) c));
+      sum-of-each = each-block (λ b c. child-of 15 b (stands profile proper AnyText 2 10 (15 ∷ []) b (proper .block-sum) c));
+      amount-of-each = all-map (λ p c. stands profile proper AnyText 10 37 (41 ∷ 42 ∷ []) (p .own) (proper .amount) (c .own-as)) (payments-as profile proper AnyText root kept);
+    }
+  where
+    each-block : {P : Element → Type 0} → ((b : Element) → As profile proper AnyText 2 10 b → P b) → All P (blocks root)
+    each-block f = all-map f (blocks-as profile proper AnyText root kept)
+
+-- No pair of an accepted payment's row is absent but the ultimate debtor's, the fourth.
+either-there : {o q : Option Element} → There o ⊎ There q → There (either-of o q)
+unfolding either-of
+either-there {o = none} {q = q} h = ⊎-elim (λ t. some-not-none (sym (t .is-it))) (λ t. t) h
+either-there {o = some t} {q = q} h = record { it = t; is-it = refl }
+
+module _ (profile : List Row) (proper : Proper profile) (Right : (parent : ℕ) → Row → Head → List ℕ → Type 0) where
+  pairs-there : (p : Payment) → PaymentAs profile proper Right p → Used p → PairsThere p
+  unfolding PairsThere must-be-there pairs in-payment in-block inherited
+  pairs-there p c u =
+      each-more (λ _. stands profile proper Right 10 37 (38 ∷ 40 ∷ []) (p .own) (proper .end-to-end-id) (c .own-as))
+      (each-more (λ _. stands profile proper Right 10 37 (45 ∷ 27 ∷ 28 ∷ []) (p .own) (proper .creditor-iban) (c .own-as))
+      (each-more (λ _. stands profile proper Right 10 37 (44 ∷ 25 ∷ []) (p .own) (proper .creditor-name) (c .own-as))
+      (each-more (λ e. false-not-true e)
+      (each-more (λ _. either-there (u .somewhere))
+      (each-more (λ _. stands profile proper Right 2 10 (26 ∷ 27 ∷ 28 ∷ []) (p .block) (proper .debtor-iban) (c .block-as)) each-none)))))
+
+-- two statements of each of a list
+both-of : {A : Type 0} {P Q R : A → Type 0} {l : List A} → ((a : A) → P a → Q a → R a) → All P l → All Q l → All R l
+both-of f all-none all-none = all-none
+both-of f (all-more p h) (all-more q k) = all-more (f _ p q) (both-of f h k)
+
+pub no-other-absent : (profile : List Row) → Proper profile → (root : Element) → AcceptedTree profile root → All PairsThere (payments root)
+unfolding RowsKept UsageKept
+no-other-absent profile proper root a =
+    both-of (pairs-there profile proper AnyText) (payments-as profile proper AnyText root (a .but-counts .rows)) (a .but-counts .usage)
+
+-- Nor is one of fields 4 to 7, 10, 11, 13 and 14.
+unfoldable pub never-absent : List Bool
+never-absent =
+    false ∷ false ∷ false ∷ true ∷ true ∷ true ∷ true ∷ false ∷ false ∷ true ∷ true ∷ false ∷ true ∷ true ∷ false ∷ false ∷ false ∷ []
+
+unfoldable pub FieldsThere : Payment → Type 0
+FieldsThere p = EachWith (λ must f. must ≡ true → There (f .element)) never-absent (fields p)
+
+follow-joined : (route : List ℕ) (k : ℕ) (t u v : Element) → follow route t ≡ some u → child k u ≡ some v → follow (route ++ (k ∷ [])) t ≡ some v
+unfolding follow
+follow-joined [] k t u v e f = let g : t ≡ u = cc in follow-one k t v (ap (child k) g ∙ f)
+follow-joined (j ∷ route) k t u v e f = go (child j t) refl e (λ w g. follow-joined route k w u v g f)
+  where
+    go : (o : Option Element) → child j t ≡ o → _≡_ {A = Option Element} (elim o [ none ↦ none | some w ↦ follow route w ]) (some u)
+        → ((w : Element) → follow route w ≡ some u → follow (route ++ (k ∷ [])) w ≡ some v)
+        → _≡_ {A = Option Element} (elim o [ none ↦ none | some w ↦ follow (route ++ (k ∷ [])) w ]) (some v)
+    go none p q below = some-not-none (sym q)
+    go (some w) p q below = below w q
+
+module _ (profile : List Row) (proper : Proper profile) (Right : (parent : ℕ) → Row → Head → List ℕ → Type 0) where
+  agent-there : (b : Element) → As profile proper Right 2 10 b → There (either-of (follow (29 ∷ 30 ∷ 31 ∷ []) b) (follow (29 ∷ 30 ∷ 32 ∷ 33 ∷ []) b))
+  unfolding EndsAs
+  agent-there b c = go (choice-there profile Right (u .it) 29 (row-of profile 29 30) (31 ∷ 32 ∷ []) (proper .agent-or-not) conforms)
+    where
+      u : There (follow (29 ∷ 30 ∷ []) b)
+      u = stands profile proper Right 2 10 (29 ∷ 30 ∷ []) b (proper .debtor-agent) c
+
+      conforms : As profile proper Right 29 30 (u .it)
+      conforms = ends-as profile proper Right 2 10 (29 ∷ 30 ∷ []) b (u .it) (proper .debtor-agent) c (u .is-it)
+
+      bic : There (child 31 (u .it)) → There (follow (29 ∷ 30 ∷ 31 ∷ []) b)
+      bic v = record { it = v .it; is-it = follow-joined (29 ∷ 30 ∷ []) 31 b (u .it) (v .it) (u .is-it) (v .is-it) }
+
+      other : There (child 32 (u .it)) → There (follow (29 ∷ 30 ∷ 32 ∷ 33 ∷ []) b)
+      other v =
+          let d = follow-conforms profile Right (proper .apart) 29 30 (32 ∷ []) (u .it) (v .it) (proper .to-not-provided) conforms (follow-one 32 (u .it) (v .it) (v .is-it)) in
+          let w = child-of 33 (v .it) (stands profile proper Right 30 32 (33 ∷ []) (v .it) (proper .not-provided) d) in
+          record {
+            it = w .it;
+            is-it = follow-joined (29 ∷ 30 ∷ 32 ∷ []) 33 b (v .it) (w .it) (follow-joined (29 ∷ 30 ∷ []) 32 b (u .it) (v .it) (u .is-it) (v .is-it)) (w .is-it);
+          }
+
+      go : ((k : ℕ) × List·Memᴰ k (31 ∷ 32 ∷ []) × There (child k (u .it))) → There (either-of (follow (29 ∷ 30 ∷ 31 ∷ []) b) (follow (29 ∷ 30 ∷ 32 ∷ 33 ∷ []) b))
+      go (k, m, v) =
+          ⊎-elim (λ e. either-there (inl (bic (subst (λ (j : ℕ). There (child j (u .it))) e v))))
+          (λ n. either-there (inr (other (subst (λ (j : ℕ). There (child j (u .it))) (List·Memᴰ·eq-of-singleton n) v)))) (List·Memᴰ·cases-cons m)
+
+  some-fields-there : (p : Payment) → PaymentAs profile proper Right p → FieldsThere p
+  unfolding FieldsThere never-absent fields plain or-means amount-field remittance in-payment in-block inherited
+  some-fields-there p c =
+      each-more (λ e. false-not-true e)
+      (each-more (λ e. false-not-true e)
+      (each-more (λ e. false-not-true e)
+      (each-more (λ _. stands profile proper Right 2 10 (22 ∷ 23 ∷ []) (p .block) (proper .date) (c .block-as))
+      (each-more (λ _. stands profile proper Right 2 10 (24 ∷ 25 ∷ []) (p .block) (proper .debtor-name) (c .block-as))
+      (each-more (λ _. stands profile proper Right 2 10 (26 ∷ 27 ∷ 28 ∷ []) (p .block) (proper .debtor-iban) (c .block-as))
+      (each-more (λ _. agent-there (p .block) (c .block-as))
+      (each-more (λ e. false-not-true e)
+      (each-more (λ e. false-not-true e)
+      (each-more (λ _. stands profile proper Right 10 37 (38 ∷ 40 ∷ []) (p .own) (proper .end-to-end-id) (c .own-as))
+      (each-more (λ _. stands profile proper Right 10 37 (41 ∷ 42 ∷ []) (p .own) (proper .amount) (c .own-as))
+      (each-more (λ e. false-not-true e)
+      (each-more (λ _. stands profile proper Right 10 37 (44 ∷ 25 ∷ []) (p .own) (proper .creditor-name) (c .own-as))
+      (each-more (λ _. stands profile proper Right 10 37 (45 ∷ 27 ∷ 28 ∷ []) (p .own) (proper .creditor-iban) (c .own-as))
+      (each-more (λ e. false-not-true e)
+      (each-more (λ e. false-not-true e)
+      (each-more (λ e. false-not-true e) each-none))))))))))))))))
+
+pub fields-there : (profile : List Row) → Proper profile → (root : Element) → RowsKept profile root → All FieldsThere (payments root)
+unfolding RowsKept
+fields-there profile proper root kept = all-map (some-fields-there profile proper AnyText) (payments-as profile proper AnyText root kept)

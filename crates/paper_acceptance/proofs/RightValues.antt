@@ -1,0 +1,49 @@
+-- What the walk of 6 to 8 leaves right: the leaves of the header and of the blocks, and the amounts, of a message in which it refuses nothing.
+use Prim.Native.Nat.{ℕ}
+use mathlib.Core.List.{List, [], _∷_}
+use mathlib.Core.Bool.{true}
+use mathlib.Core.Option.{none, some}
+use mathlib.Core.Path.{_≡_}
+use Rattle.paper.specs.Form.{Element}
+use Rattle.paper.specs.Rows.{Row, row-of, text, head-of}
+use Rattle.paper.specs.Payments.{child, follow, blocks, of-header, payments, text-of}
+use Rattle.paper.specs.Refusals.{values-refusal}
+use Rattle.paper.specs.Accepted.{All, RightText, ValuesRight}
+use Rattle.paper_acceptance.proofs.Routes.{leaf-conforms, EndsAs}
+use Rattle.paper_acceptance.proofs.Proper.{leads, Proper}
+use Rattle.paper_acceptance.proofs.Present.{As, follow-one, ends-as, PaymentAs, blocks-as, payments-as}
+use Rattle.paper_acceptance.proofs.Stages.{values-right}
+
+module _ (profile : List Row) (proper : Proper profile) where
+  abbrev pub RightAs : (parent k : ℕ) → Element → Type 0
+  RightAs parent k t = As profile proper RightText parent k t
+
+  -- a leaf of a block, and the amount of a payment
+  pub block-leaf-right : (b : Element) → RightAs 2 10 b → (k longest : ℕ) (t : Element) → leads profile 2 10 (k ∷ []) ≡ true → row-of profile 10 k .holds ≡ text longest
+      → child k b ≡ some t → RightText 10 (row-of profile 10 k) (head-of t) (text-of t)
+  unfolding EndsAs
+  block-leaf-right b c k longest t taken holds e =
+      leaf-conforms profile RightText t 10 (row-of profile 10 k) longest holds (ends-as profile proper RightText 2 10 (k ∷ []) b t taken c (follow-one k b t e))
+
+  pub amount-right : (t : Element) → RightAs 10 37 t → (longest : ℕ) (u : Element) → row-of profile 41 42 .holds ≡ text longest → follow (41 ∷ 42 ∷ []) t ≡ some u
+      → RightText 41 (row-of profile 41 42) (head-of u) (text-of u)
+  unfolding EndsAs
+  amount-right t c longest u holds e =
+      leaf-conforms profile RightText u 41 (row-of profile 41 42) longest holds (ends-as profile proper RightText 10 37 (41 ∷ 42 ∷ []) t u (proper .amount) c e)
+
+  module _ (root : Element) (right : values-refusal profile root ≡ none) where
+    root-right : RightAs 0 1 root
+    unfolding ValuesRight
+    root-right = values-right profile (proper .apart) root .0 right
+
+    pub header-right : (k longest : ℕ) (t : Element) → leads profile 0 1 (2 ∷ 3 ∷ k ∷ []) ≡ true → row-of profile 3 k .holds ≡ text longest → of-header k root ≡ some t
+        → RightText 3 (row-of profile 3 k) (head-of t) (text-of t)
+    unfolding of-header EndsAs
+    header-right k longest t taken holds e =
+        leaf-conforms profile RightText t 3 (row-of profile 3 k) longest holds (ends-as profile proper RightText 0 1 (2 ∷ 3 ∷ k ∷ []) root t taken root-right e)
+
+    pub blocks-right : All (RightAs 2 10) (blocks root)
+    blocks-right = blocks-as profile proper RightText root root-right
+
+    pub payments-right : All (PaymentAs profile proper RightText) (payments root)
+    payments-right = payments-as profile proper RightText root root-right

@@ -1,0 +1,219 @@
+-- What a conforming element has: the children of a row conform to it, a row that must be there has a child, and so along a route of rows.
+use Prim.Native.Nat.{ℕ}
+use native.Mathlib.Omega.{arith}
+use mathlib.Core.List.{List, [], _∷_, _++_, List·Memᴰ, List·Memᴰ·head, List·Memᴰ·cases-cons, List·Memᴰ·not-nil, Memᴰ·append-left, Memᴰ·append-right}
+use mathlib.Core.Bool.{Bool, true, false, _&&_}
+use mathlib.Core.Option.{Option, none, some}
+use mathlib.Core.Path.{_≡_, refl, sym, _∙_, ap, subst}
+use mathlib.Core.Logic.{⊎-elim}
+use borrow.Author.Tests.{eqb-true}
+use lib.Dec.{eqb}
+use Rattle.paper.specs.Bytes.{if_then_else_, white, same, Every}
+use Rattle.paper.specs.Form.{Head, Element, Elements, holding-text, holding-elements, []ᵉ, _∷ᵉ_}
+use Rattle.paper.specs.Rows.{Place, either, Contents, text, elements, Row, name, row-of, head-of, Arranged, end, exactly-one, there, not-there, the-last, one-before, chosen, Conforms, Conform}
+use Rattle.paper.specs.Values.{among}
+use Rattle.paper.specs.Payments.{listed, children, all-named, all-of, child, follow, text-of}
+use Rattle.paper.specs.Refusals.{rows-at}
+use Rattle.paper.specs.Accepted.{All, all-none, all-more, There}
+use Rattle.paper.proofs.Laws.{some-not-none, both-left, both-right, same-says, same-tests, all-member, all-map, among-says}
+use Rattle.paper_acceptance.proofs.Arranged.{rows-of, Apart, apart-none, apart-more, must, must-be-there, one-chosen}
+use Rattle.paper_acceptance.proofs.Rows.{RowsApart}
+
+-- the rows of arranged children are rows of the places
+deeper : (is : List ℕ) {js ks : List ℕ} → All (λ k. List·Memᴰ k js) ks → All (λ k. List·Memᴰ k (is ++ js)) ks
+deeper is h = all-map (λ k m. Memᴰ·append-right is m) h
+
+pub arranged-in : {ps : List Place} {ks : List ℕ} → Arranged ps ks → All (λ k. List·Memᴰ k (rows-of ps)) ks
+unfolding rows-of rows-at
+arranged-in end = all-none
+arranged-in (exactly-one {k} a) = all-more (List·Memᴰ·head refl) (deeper (k ∷ []) (arranged-in a))
+arranged-in (there {k} a) = all-more (List·Memᴰ·head refl) (deeper (k ∷ []) (arranged-in a))
+arranged-in (not-there {k} a) = deeper (k ∷ []) (arranged-in a)
+arranged-in (the-last {k} a) = all-more (List·Memᴰ·head refl) (deeper (k ∷ []) (arranged-in a))
+arranged-in (one-before a) = all-more (List·Memᴰ·head refl) (arranged-in a)
+arranged-in (chosen {choice = c} m a) = all-more (Memᴰ·append-left _ m) (deeper c (arranged-in a))
+
+-- a row is one of a group's rows, and one that must be there, as tests
+unfoldable pub takes : Row → ℕ → Bool
+takes r k = elim (r .holds) [ text longest ↦ false | elements places ↦ among k (rows-of places) ]
+
+unfoldable pub must-take : Row → ℕ → Bool
+must-take r k = elim (r .holds) [ text longest ↦ false | elements places ↦ must k places ]
+
+-- Along a route from row k under a parent: each row is taken by the one before, and each must be there, as tests.
+unfoldable pub steps : List Row → (parent k : ℕ) → List ℕ → Bool
+steps profile parent k [] = true
+steps profile parent k (j ∷ js) = (eqb (row-of profile parent k .row) k && takes (row-of profile parent k) j) && steps profile k j js
+
+unfoldable pub must-steps : List Row → (parent k : ℕ) → List ℕ → Bool
+must-steps profile parent k [] = true
+must-steps profile parent k (j ∷ js) = must-take (row-of profile parent k) j && must-steps profile k j js
+
+-- rows of one name are one row
+apart-same : {ks : List ℕ} {j k : ℕ} → Apart ks → List·Memᴰ j ks → List·Memᴰ k ks → name j ≡ name k → j ≡ k
+apart-same apart-none m n e = absurd (List·Memᴰ·not-nil m)
+apart-same {j = j} {k = k} (apart-more {k = i} a h) m n e =
+    ⊎-elim (λ p. ⊎-elim (λ q. p ∙ sym q) (λ q. absurd (all-member a q (ap name (sym p) ∙ e))) (List·Memᴰ·cases-cons n))
+    (λ p. ⊎-elim (λ q. absurd (all-member a p (ap name (sym q) ∙ sym e))) (λ q. apart-same h p q e) (List·Memᴰ·cases-cons n)) (List·Memᴰ·cases-cons m)
+
+-- the first of some elements
+some-first : (l : List Element) {u : Element} → List·Memᴰ u l → There (elim l as (λ _. Option Element) [ [] ↦ none | v ∷ vs ↦ some v ])
+some-first [] m = absurd (List·Memᴰ·not-nil m)
+some-first (v ∷ vs) m = record { it = v; is-it = refl }
+
+module _ (profile : List Row) (Right : (parent : ℕ) → Row → Head → List ℕ → Type 0) where
+  -- all children that are named as row k conform to it
+  named-conform : (ts : Elements) (row k : ℕ) (ks js : List ℕ) → Apart js → List·Memᴰ k js → All (λ i. List·Memᴰ i js) ks → Conform profile Right ts row ks
+      → All (λ u. Conforms profile Right u row (row-of profile row k)) (all-named k (listed ts))
+  unfolding all-named listed Conforms
+  named-conform []ᵉ row k ks js a m h c = all-none
+  named-conform (t ∷ᵉ ts) row k [] js a m h c = absurd c
+  named-conform (t ∷ᵉ ts) row k (i ∷ ks) js a m (all-more n h) c = go (same (head-of t .name) (name k)) refl (named-conform ts row k ks js a m h (c .2))
+    where
+      go : (b : Bool) → same (head-of t .name) (name k) ≡ b → All (λ u. Conforms profile Right u row (row-of profile row k)) (all-named k (listed ts))
+          → All (λ u. Conforms profile Right u row (row-of profile row k)) (if b then t ∷ all-named k (listed ts) else all-named k (listed ts))
+      go false e below = below
+      go true e below =
+          all-more (subst (λ (j : ℕ). Conforms profile Right t row (row-of profile row j)) (apart-same a n m (sym (c .0) ∙ same-says _ _ e)) (c .1)) below
+
+  pub all-conform : (t : Element) (parent : ℕ) (r : Row) (k : ℕ) → RowsApart r → takes r k ≡ true → Conforms profile Right t parent r
+      → All (λ u. Conforms profile Right u (r .row) (row-of profile (r .row) k)) (all-of k t)
+  unfolding all-of children all-named takes RowsApart Conforms
+  all-conform (holding-text h w) parent r k a e c = all-none
+  all-conform (holding-elements h ts) parent r k a e c = go (r .holds) a e c
+    where
+      go : (holds : Contents) → (elim holds as (λ _. Type 0) [ text longest ↦ Unit {0} | elements places ↦ Apart (rows-of places) ])
+          → _≡_ {A = Bool} (elim holds [ text longest ↦ false | elements places ↦ among k (rows-of places) ]) true
+          → (elim holds as (λ _. Type 0) [ text longest ↦ ⊥ | elements places ↦ (ks : List ℕ) × Arranged places ks × Conform profile Right ts (r .row) ks ])
+          → All (λ u. Conforms profile Right u (r .row) (row-of profile (r .row) k)) (all-named k (listed ts))
+      go (text longest) a e c = absurd c
+      go (elements places) a e c =
+          named-conform ts (r .row) k (c .0) (rows-of places) a (among-says k (rows-of places) e) (arranged-in (c .1)) (c .2)
+
+  child-conforms : (t : Element) (parent : ℕ) (r : Row) (k : ℕ) (u : Element) → RowsApart r → takes r k ≡ true → Conforms profile Right t parent r
+      → child k t ≡ some u → Conforms profile Right u (r .row) (row-of profile (r .row) k)
+  unfolding child
+  child-conforms t parent r k u a e c f = go (all-of k t) (all-conform t parent r k a e c) f
+    where
+      go : (l : List Element) → All (λ v. Conforms profile Right v (r .row) (row-of profile (r .row) k)) l
+          → _≡_ {A = Option Element} (elim l [ [] ↦ none | v ∷ vs ↦ some v ]) (some u) → Conforms profile Right u (r .row) (row-of profile (r .row) k)
+      go [] h f = some-not-none (sym f)
+      go (v ∷ vs) (all-more p h) f = let g : v ≡ u = cc in subst (λ (x : Element). Conforms profile Right x (r .row) (row-of profile (r .row) k)) g p
+
+  -- In a conforming group each row that must be there has a child that is found.
+  named-there : (ts : Elements) (row k : ℕ) (ks : List ℕ) → List·Memᴰ k ks → Conform profile Right ts row ks → (u : Element) × List·Memᴰ u (all-named k (listed ts))
+  unfolding all-named listed Conforms
+  named-there []ᵉ row k ks m c = absurd (List·Memᴰ·not-nil (subst (λ (l : List ℕ). List·Memᴰ k l) c m))
+  named-there (t ∷ᵉ ts) row k [] m c = absurd c
+  named-there (t ∷ᵉ ts) row k (i ∷ ks) m c = ⊎-elim here (λ n. further-on (same (head-of t .name) (name k)) (named-there ts row k ks n (c .2))) (List·Memᴰ·cases-cons m)
+    where
+      here : k ≡ i → (u : Element) × List·Memᴰ u (if same (head-of t .name) (name k) then t ∷ all-named k (listed ts) else all-named k (listed ts))
+      here e =
+          let s : same (head-of t .name) (name k) ≡ true = ap (λ (w : List ℕ). same w (name k)) (c .0 ∙ ap name (sym e)) ∙ same-tests (name k) in
+          (t, rw s (List·Memᴰ·head refl))
+
+      further-on : (b : Bool) → ((u : Element) × List·Memᴰ u (all-named k (listed ts)))
+          → (u : Element) × List·Memᴰ u (if b then t ∷ all-named k (listed ts) else all-named k (listed ts))
+      further-on true n = (n .0, Memᴰ·append-right (t ∷ []) (n .1))
+      further-on false n = n
+
+  pub child-there : (t : Element) (parent : ℕ) (r : Row) (k : ℕ) → must-take r k ≡ true → Conforms profile Right t parent r → There (child k t)
+  unfolding child all-of children must-take Conforms
+  child-there (holding-text h w) parent r k e c = absurd (go (r .holds) e c)
+    where
+      go : (holds : Contents) → _≡_ {A = Bool} (elim holds [ text longest ↦ false | elements places ↦ must k places ]) true
+          → (elim holds as (λ _. Type 0) [ text longest ↦ Right parent r h w | elements places ↦ Every white w × Arranged places [] ]) → ⊥
+      go (text longest) e c = let z : _≡_ {A = ℕ} 0 1 = cc in omega (arith, z)
+      go (elements places) e c = List·Memᴰ·not-nil (must-be-there k e (c .1))
+  child-there (holding-elements h ts) parent r k e c = go (r .holds) e c
+    where
+      go : (holds : Contents) → _≡_ {A = Bool} (elim holds [ text longest ↦ false | elements places ↦ must k places ]) true
+          → (elim holds as (λ _. Type 0) [ text longest ↦ ⊥ | elements places ↦ (ks : List ℕ) × Arranged places ks × Conform profile Right ts (r .row) ks ])
+          → There (elim (all-named k (listed ts)) as (λ _. Option Element) [ [] ↦ none | v ∷ vs ↦ some v ])
+      go (text longest) e c = absurd c
+      go (elements places) e c = some-first (all-named k (listed ts)) (named-there ts (r .row) k (c .0) (must-be-there k e (c .1)) (c .2) .1)
+
+  -- of a choice, one
+  pub choice-there : (t : Element) (parent : ℕ) (r : Row) (choice : List ℕ) → r .holds ≡ elements (either choice ∷ []) → Conforms profile Right t parent r
+      → (k : ℕ) × List·Memᴰ k choice × There (child k t)
+  unfolding child all-of children Conforms
+  choice-there (holding-text h w) parent r choice e c = absurd (go (r .holds) e c)
+    where
+      go : (holds : Contents) → holds ≡ elements (either choice ∷ [])
+          → (elim holds as (λ _. Type 0) [ text longest ↦ Right parent r h w | elements places ↦ Every white w × Arranged places [] ]) → ⊥
+      go (text longest) e c = let z : _≡_ {A = ℕ} 0 1 = cc in omega (arith, z)
+      go (elements places) e c =
+          let p : places ≡ either choice ∷ [] = cc in
+          List·Memᴰ·not-nil (one-chosen (subst (λ (ps : List Place). Arranged ps []) p (c .1)) .2)
+  choice-there (holding-elements h ts) parent r choice e c = go (r .holds) e c
+    where
+      go : (holds : Contents) → holds ≡ elements (either choice ∷ [])
+          → (elim holds as (λ _. Type 0) [ text longest ↦ ⊥ | elements places ↦ (ks : List ℕ) × Arranged places ks × Conform profile Right ts (r .row) ks ])
+          → (k : ℕ) × List·Memᴰ k choice × There (elim (all-named k (listed ts)) as (λ _. Option Element) [ [] ↦ none | v ∷ vs ↦ some v ])
+      go (text longest) e c = absurd c
+      go (elements places) e c =
+          let p : places ≡ either choice ∷ [] = cc in
+          let n = one-chosen (subst (λ (ps : List Place). Arranged ps (c .0)) p (c .1)) in
+          (n .0, n .1, some-first (all-named (n .0) (listed ts)) (named-there ts (r .row) (n .0) (c .0) (n .2) (c .2) .1))
+
+  -- a leaf that conforms holds text that is right for it
+  pub leaf-conforms : (t : Element) (parent : ℕ) (r : Row) (longest : ℕ) → r .holds ≡ text longest → Conforms profile Right t parent r
+      → Right parent r (head-of t) (text-of t)
+  unfolding Conforms head-of text-of
+  leaf-conforms (holding-text h w) parent r longest e c = go (r .holds) e c
+    where
+      go : (holds : Contents) → holds ≡ text longest
+          → (elim holds as (λ _. Type 0) [ text longest ↦ Right parent r h w | elements places ↦ Every white w × Arranged places [] ]) → Right parent r h w
+      go (text n) e c = c
+      go (elements ps) e c = let z : _≡_ {A = ℕ} 0 1 = cc in absurd (omega (arith, z))
+  leaf-conforms (holding-elements h ts) parent r longest e c = absurd (go (r .holds) e c)
+    where
+      go : (holds : Contents) → holds ≡ text longest
+          → (elim holds as (λ _. Type 0) [ text longest ↦ ⊥ | elements places ↦ (ks : List ℕ) × Arranged places ks × Conform profile Right ts (r .row) ks ]) → ⊥
+      go (text n) e c = c
+      go (elements ps) e c = let z : _≡_ {A = ℕ} 0 1 = cc in omega (arith, z)
+
+  -- Along a route: what stands at its end conforms.
+  abbrev As : (parent k : ℕ) → Element → Type 0
+  As parent k t = Conforms profile Right t parent (row-of profile parent k)
+
+  unfoldable pub EndsAs : (parent k : ℕ) → List ℕ → Element → Type 0
+  EndsAs parent k [] u = As parent k u
+  EndsAs parent k (j ∷ js) u = EndsAs k j js u
+
+  module _ (apart : (parent k : ℕ) → RowsApart (row-of profile parent k)) where
+    pub step-all : (parent k j : ℕ) (t : Element) → (eqb (row-of profile parent k .row) k && takes (row-of profile parent k) j) ≡ true → As parent k t → All (As k j) (all-of j t)
+    step-all parent k j t e c =
+        subst (λ (i : ℕ). All (λ u. Conforms profile Right u i (row-of profile i j)) (all-of j t)) (eqb-true _ k (both-left (eqb (row-of profile parent k .row) k) _ e))
+        (all-conform t parent (row-of profile parent k) j (apart parent k) (both-right (eqb (row-of profile parent k .row) k) _ e) c)
+
+    step : (parent k j : ℕ) (t u : Element) → (eqb (row-of profile parent k .row) k && takes (row-of profile parent k) j) ≡ true → As parent k t → child j t ≡ some u → As k j u
+    step parent k j t u e c f =
+        subst (λ (i : ℕ). Conforms profile Right u i (row-of profile i j)) (eqb-true _ k (both-left (eqb (row-of profile parent k .row) k) _ e))
+        (child-conforms t parent (row-of profile parent k) j u (apart parent k) (both-right (eqb (row-of profile parent k .row) k) _ e) c f)
+
+    pub follow-conforms : (parent k : ℕ) (route : List ℕ) (t u : Element) → steps profile parent k route ≡ true → As parent k t → follow route t ≡ some u → EndsAs parent k route u
+    unfolding steps EndsAs follow
+    follow-conforms parent k [] t u e c f = let g : t ≡ u = cc in subst (As parent k) g c
+    follow-conforms parent k (j ∷ js) t u e c f = go (child j t) refl f (λ v d g. follow-conforms k j js v u (both-right one-step _ e) d g)
+      where
+        one-step : Bool
+        one-step = eqb (row-of profile parent k .row) k && takes (row-of profile parent k) j
+
+        go : (o : Option Element) → child j t ≡ o → _≡_ {A = Option Element} (elim o [ none ↦ none | some v ↦ follow js v ]) (some u)
+            → ((v : Element) → As k j v → follow js v ≡ some u → EndsAs k j js u) → EndsAs k j js u
+        go none p q below = some-not-none (sym q)
+        go (some v) p q below = below v (step parent k j t v (both-left one-step _ e) c p) q
+
+    pub follow-there : (parent k : ℕ) (route : List ℕ) (t : Element) → steps profile parent k route ≡ true → must-steps profile parent k route ≡ true → As parent k t → There (follow route t)
+    unfolding steps must-steps follow
+    follow-there parent k [] t e m c = record { it = t; is-it = refl }
+    follow-there parent k (j ∷ js) t e m c =
+        let one = child-there t parent (row-of profile parent k) j (both-left (must-take (row-of profile parent k) j) _ m) c in
+        go (one .is-it)
+        (follow-there k j js (one .it) (both-right (eqb (row-of profile parent k .row) k && takes (row-of profile parent k) j) _ e)
+        (both-right (must-take (row-of profile parent k) j) _ m)
+        (step parent k j t (one .it) (both-left (eqb (row-of profile parent k .row) k && takes (row-of profile parent k) j) _ e) c (one .is-it)))
+      where
+        go : {o : Option Element} {v : Element} → o ≡ some v → There (follow js v) → There (elim o as (λ _. Option Element) [ none ↦ none | some w ↦ follow js w ])
+        go e h = rw e h

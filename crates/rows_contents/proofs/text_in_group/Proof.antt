@@ -1,0 +1,68 @@
+use mathlib.Core.Path.{_∙_}
+use native.Mathlib.Omega.{arith}
+use Rattle.paper.specs.Answers.{refusal-found, refusal-of, numbered}
+use Rattle.paper.specs.Refusals.{refuse}
+use Rattle.rows_contents.proofs.Leaves.{black-refused, white-ends}
+use Rattle.tree.proofs.Laws.{start-cell, close-cell}
+use Rattle.rows_places.proofs.Parts.{between-is}
+use borrow.Author.Needs.{needs}
+use Rattle.rows_contents.proofs.text_in_group.Statement.{statement}
+use Rattle.rows_contents.proofs.text_in_group.Tie as tie
+
+cell-requires : tie.Need-cell-requires
+cell-requires c κs = search needs
+
+cell-requires-2 : tie.Need-cell-requires-2
+cell-requires-2 c κs = search needs
+
+returns : tie.Need-returns
+returns c = λ h next e. absurd (omega (arith, start-cell e (c .before .before .cell .ensures), e .written .start-first, e .written .close-inside))
+
+part-requires : tie.Need-part-requires
+part-requires c κs = search needs
+
+first-black-requires : tie.Need-first-black-requires
+first-black-requires c κs = search needs
+
+of-entry-requires : tie.Need-of-entry-requires
+of-entry-requires c κs = search needs
+
+wide-requires : tie.Need-wide-requires
+wide-requires c κs = search needs
+
+add-t15 : tie.Need-add-t15
+add-t15 c = search needs
+
+returns-2 : tie.Need-returns-2
+unfolding refusal-found refusal-of numbered refuse
+returns-2 c = λ h next e. black-refused _ h (c .before .before .before .before .part .ensures ∙ between-is _ (start-cell e (c .before .before .before .before .before .before .before .cell .ensures)) (close-cell e (c .before .before .before .before .before .before .cell2 .ensures))) (c .wide .ensures ∙ c .before .of-entry .ensures) (start-cell e (c .before .before .before .before .before .before .before .cell .ensures)) (c .before .before .before .first-black .ensures) (c .before .before .if2 .taken)
+
+of-entry-requires-2 : tie.Need-of-entry-requires-2
+of-entry-requires-2 c κs = search needs
+
+of-entry-requires-3 : tie.Need-of-entry-requires-3
+of-entry-requires-3 c κs = search needs
+
+ends-requires : tie.Need-ends-requires
+ends-requires c κs = search needs
+
+returns-3 : tie.Need-returns-3
+returns-3 c = λ h next e. white-ends _ h (c .before .before .before .before .before .part .ensures ∙ between-is _ (start-cell e (c .before .before .before .before .before .before .before .before .cell .ensures)) (close-cell e (c .before .before .before .before .before .before .before .cell2 .ensures))) _ (c .before .before .before .before .first-black .ensures) (c .before .before .before .if2 .left) (rw (close-cell e (c .before .before .before .before .before .before .before .cell2 .ensures), c .before .before .of-entry2 .ensures, c .before .of-entry3 .ensures) at (c .ends .ensures))
+
+pub text-in-group-spec : {M : Type 1} → statement M
+text-in-group-spec =
+    tie.close
+    (tie.spec
+    cell-requires
+    cell-requires-2
+    returns
+    part-requires
+    first-black-requires
+    of-entry-requires
+    wide-requires
+    add-t15
+    returns-2
+    of-entry-requires-2
+    of-entry-requires-3
+    ends-requires
+    returns-3)

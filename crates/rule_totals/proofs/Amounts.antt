@@ -1,0 +1,204 @@
+-- What leaves say as numbers, and the exact sum of amounts, payment after payment.
+use Prim.Native.Nat.{ℕ, _+_, _*_, _-_, _^_, _≤_, _<_}
+use mathlib.Core.List.{List, [], _∷_, map}
+use mathlib.Core.Option.{Option, none, some}
+use mathlib.Core.Bool.{true, false}
+use mathlib.Core.Path.{_≡_, refl, sym, ap, _∙_, subst}
+use native.Mathlib.Omega.{arith}
+use lib.ListN.{length, getD}
+use lib.Dec.{eqb}
+use borrow.Author.Tests.{ne-eqb, lt-ltb, le-ltb}
+use Rattle.paper.specs.Form.{Element}
+use Rattle.paper.specs.Values.{number, cents, money}
+use Rattle.paper.specs.Payments.{Payment, text-of, follow, of-header, payments, amount-of, sum-of, total}
+use Rattle.paper.specs.Refusals.{Refusal, refuse, at-of, total-refusal}
+use Rattle.paper.specs.Accepted.{All, all-more}
+use Rattle.paper.proofs.Laws.{some-not-none}
+use Rattle.tree.specs.Laid.{Laid}
+use Rattle.tree.proofs.Laws.{Cell, at-cell, entry-of}
+use Rattle.tree_routes.specs.Finds.{Finds}
+use Rattle.rule_limits.specs.Ordered.{PaymentAt, PaymentsAt, no-payments, more-payments}
+use Rattle.tree_routes.specs.declared.Found.{Found}
+use Rattle.tree_routes.specs.declared.Found.the-variants.{At, Nothing}
+use Rattle.tree_routes.proofs.WhatIsFound.{found-none, found-some}
+use Rattle.rule_totals.specs.declared.Sum.{Sum}
+use Rattle.rule_totals.specs.declared.Sum.the-variants as sum
+use Rattle.rule_totals.specs.declared.Total.{Total}
+use Rattle.rule_totals.specs.declared.Total.the-variants as totalled
+use Rattle.tree_leaves.specs.Readable.{ReadMoney, ReadPayment}
+use Rattle.rule_totals.specs.Totals.{Sums, sums-to, sums-above, Totals, total-is, total-above}
+use Rattle.tree_leaves.proofs.Leaves.{stands-at}
+use Rattle.rule_limits.proofs.First.{one-fewer}
+
+-- the amount of a payment; where a leaf stands that must be there
+amount-at : Option Element → ℕ
+amount-at none = 0
+amount-at (some u) = cents (text-of u)
+
+amount-is : (t : Element) → amount-of t ≡ amount-at (follow (41 ∷ 42 ∷ []) t)
+unfolding amount-of amount-at
+amount-is t = go (follow (41 ∷ 42 ∷ []) t)
+  where
+    go : (o : Option Element) → _≡_ {A = ℕ} (elim o [ none ↦ 0 | some u ↦ cents (text-of u) ]) (amount-at o)
+    go none = refl
+    go (some u) = refl
+
+module _ {s tree : List ℕ} {f : Found} where
+  pub amount-absent : (t : Element) → Finds s tree (follow (41 ∷ 42 ∷ []) t) f → f ≡ Nothing → 0 ≡ amount-of t
+  unfolding amount-at
+  amount-absent t found e = sym (amount-is t ∙ ap amount-at (found-none found e))
+
+  pub amount-there : (t : Element) {i r : ℕ} → Finds s tree (follow (41 ∷ 42 ∷ []) t) f → f ≡ At i
+      → ((u : Element) (next : ℕ) → Laid s tree u i next → money (text-of u) ≡ true → r ≡ cents (text-of u))
+      → ReadMoney (follow (41 ∷ 42 ∷ []) t) → r ≡ amount-of t
+  unfolding amount-at
+  amount-there t found e h read =
+      let u = found-some found e in
+      h (u .it) (u .next) (u .laid) (read (u .it) (u .is-it)) ∙ sym (amount-is t ∙ ap amount-at (u .is-it))
+
+  pub at-nothing : {o : Option Element} → Finds s tree o f → f ≡ Nothing → 0 ≡ at-of o
+  unfolding at-of
+  at-nothing found e = sym (ap at-of (found-none found e))
+
+  pub at-it : {o : Option Element} {i r : ℕ} → Finds s tree o f → f ≡ At i → Cell tree i 0 r → r ≡ at-of o
+  unfolding at-of
+  at-it found e c = let u = found-some found e in at-cell (entry-of (u .laid)) c ∙ sym (ap at-of (u .is-it))
+
+-- the first of the payments that stand from payment k on, and that none is left
+pub record FirstPayment (s tree out : List ℕ) (k : ℕ) (ps : List Payment) : Type 0 where
+  pub one : Payment
+  pub one-at : PaymentAt s tree out k one
+  pub others : List Payment
+  pub others-at : PaymentsAt s tree out (k + 1) others
+  pub first-is : ps ≡ one ∷ others
+
+module _ {s tree out : List ℕ} {n : ℕ} where
+  pub first-payment : {k : ℕ} {ps : List Payment} → PaymentsAt s tree out k ps → n ≡ k + length ps → k < n → FirstPayment s tree out k ps
+  first-payment no-payments e h = absurd (omega arith)
+  first-payment (more-payments {p = p} {ps} a rest) e h = record { one = p; one-at = a; others = ps; others-at = rest; first-is = refl }
+
+  pub no-payment-left : {k : ℕ} {ps : List Payment} → PaymentsAt s tree out k ps → n ≡ k + length ps → n ≤ k → ps ≡ []
+  no-payment-left no-payments e h = refl
+  no-payment-left (more-payments a rest) e h = absurd (omega arith)
+
+-- the first of a list and the others have what all have
+module _ {A : Type 0} {P : A → Type 0} {a : A} {rest : List A} where
+  head-has : All P (a ∷ rest) → P a
+  head-has (all-more p h) = p
+
+  tail-have : All P (a ∷ rest) → All P rest
+  tail-have (all-more p h) = h
+
+  pub first-has : {l : List A} → l ≡ a ∷ rest → All P l → P a
+  first-has e h = head-has (subst (All P) e h)
+
+  pub others-have : {l : List A} → l ≡ a ∷ rest → All P l → All P rest
+  others-have e h = tail-have (subst (All P) e h)
+
+-- the sum of the amounts of some payments
+abbrev pub amounts : List Payment → ℕ
+amounts ps = sum-of (map (λ p. p .own) ps)
+
+amounts-more : (p : Payment) (ps : List Payment) → amounts (p ∷ ps) ≡ amount-of (p .own) + amounts ps
+unfolding sum-of
+amounts-more p ps = refl
+
+amounts-none : amounts [] ≡ 0
+unfolding sum-of
+amounts-none = refl
+
+-- Payment k is next, up to payment n, and those before it come to a sum.
+pub record Summing (s tree out : List ℕ) (ps : List Payment) (done k n : ℕ) : Type 0 where
+  rest : List Payment
+  rest-at : PaymentsAt s tree out k rest
+  rest-many : n ≡ k + length rest
+  rest-read : All ReadPayment rest
+  sum-is : amounts ps ≡ done + amounts rest
+
+-- what `amount` answers
+abbrev pub AmountAt : (s tree : List ℕ) (own r : ℕ) → Type 0
+AmountAt s tree own r =
+    (t : Element) (next : ℕ) → Laid s tree t own next → ReadMoney (follow (41 ∷ 42 ∷ []) t) → r ≡ amount-of t
+
+module _ {s tree out : List ℕ} {ps : List Payment} where
+  pub summing : {k n : ℕ} → PaymentsAt s tree out k ps → n ≡ k + length ps → All ReadPayment ps → Summing s tree out ps 0 k n
+  summing at e h = record { rest = ps; rest-at = at; rest-many = e; rest-read = h; sum-is = omega arith }
+
+  module _ {done k n own r : ℕ} (w : Summing s tree out ps done k n) (h : k < n) (few : n ≤ 64) (here : k < 64 → own ≡ getD out (16 + 3 * k) 0)
+      (says-amount : AmountAt s tree own r) where
+    with-one : (f : FirstPayment s tree out k (w .rest)) → amounts ps ≡ done + (r + amounts (f .others))
+    with-one f =
+        let p = f .one in
+        let laid = stands-at (here (omega arith)) (f .one-at .own-is) in
+        let x : r ≡ amount-of (p .own) = says-amount (p .own) (f .one-at .own-next) laid (first-has (f .first-is) (w .rest-read) .amount) in
+        let y : amounts (w .rest) ≡ amount-of (p .own) + amounts (f .others) = ap amounts (f .first-is) ∙ amounts-more p (f .others) in
+        w .sum-is ∙ ap (λ (m : ℕ). done + m) (y ∙ ap (λ (m : ℕ). m + amounts (f .others)) (sym x))
+
+    pub sum-goes : Summing s tree out ps (done + r) (k + 1) n
+    sum-goes =
+        let f = first-payment (w .rest-at) (w .rest-many) h in
+        let x : done + (r + amounts (f .others)) ≡ done + r + amounts (f .others) = omega arith in
+        record {
+          rest = f .others;
+          rest-at = f .others-at;
+          rest-many = one-fewer k (w .rest-many) (f .first-is);
+          rest-read = others-have (f .first-is) (w .rest-read);
+          sum-is = with-one f ∙ x;
+        }
+
+    pub sum-exceeds : done < 2 ^ 64 → 18446744073709551615 - done < r → Sums (amounts ps) sum.TooLarge
+    sum-exceeds b c =
+        let f = first-payment (w .rest-at) (w .rest-many) h in
+        sums-above (omega (arith, with-one f))
+
+  pub sum-ends : {done k n : ℕ} → Summing s tree out ps done k n → n ≤ k → done < 2 ^ 64 → Sums (amounts ps) (sum.Cents done)
+  sum-ends {done} w h b =
+      let x : amounts (w .rest) ≡ 0 = ap amounts (no-payment-left (w .rest-at) (w .rest-many) h) ∙ amounts-none in
+      (let y : amounts ps ≡ done = omega (arith, w .sum-is, x) in sums-to y b)
+
+-- the total, by the sum of all payments
+module _ {root : Element} where
+  pub total-fits : {a : Sum} {n : ℕ} → Sums (amounts (payments root)) a → a ≡ sum.Cents n → Totals root (totalled.Cents n)
+  unfolding total total-refusal
+  total-fits {n = n} (sums-to {m} e b) d =
+      let x : m ≡ n = cc in
+      let y : amounts (payments root) < 2 ^ 64 = omega arith in
+      total-is (rw (lt-ltb (amounts (payments root)) (2 ^ 64) y)) (e ∙ x)
+  total-fits (sums-above h) d = let z : _≡_ {A = ℕ} 0 1 = cc in absurd (omega (arith, z))
+
+  pub total-exceeds : {a : Sum} {at : ℕ} → Sums (amounts (payments root)) a → a ≡ sum.TooLarge → at ≡ at-of (of-header 7 root)
+      → Totals root (totalled.TooLarge at)
+  unfolding total total-refusal
+  total-exceeds (sums-to e b) d f = let z : _≡_ {A = ℕ} 0 1 = cc in absurd (omega (arith, z))
+  total-exceeds {at = at} (sums-above h) d f = total-above {offset = at} (rw (le-ltb (amounts (payments root)) (2 ^ 64) h) (ap (refuse 21 7) (sym f)))
+
+same-above : (m n : ℕ) → refuse 21 7 m ≡ refuse 21 7 n → totalled.TooLarge m ≡ totalled.TooLarge n
+unfolding refuse
+same-above m n p =
+    let x : _≡_ {A = Refusal} (record { number = 21; element = 7; offset = m }) (record { number = 21; element = 7; offset = n }) = cc in
+    ap totalled.TooLarge (ap (λ (r : Refusal). r .offset) x)
+
+-- Two answers that meet `total_cents`'s contract agree.
+pub totals-agree : {root : Element} {a b : Total} → Totals root a → Totals root b → a ≡ b
+unfolding refuse
+totals-agree (total-is p q) (total-is p' q') = cc
+totals-agree (total-is p q) (total-above p') = some-not-none (sym p' ∙ p)
+totals-agree (total-above p) (total-is p' q') = some-not-none (sym p ∙ p')
+totals-agree (total-above p) (total-above p') = same-above _ _ (sym p ∙ p')
+
+-- Two answers that meet `sum_of`'s contract agree.
+pub sums-agree : {n : ℕ} {a b : Sum} → Sums n a → Sums n b → a ≡ b
+sums-agree (sums-to e h) (sums-to f k) = ap sum.Cents (sym e ∙ f)
+sums-agree (sums-to e h) (sums-above k) = absurd (omega arith)
+sums-agree (sums-above h) (sums-to f k) = absurd (omega arith)
+sums-agree (sums-above h) (sums-above k) = refl
+
+-- one number of cents and a sum
+module _ {n : ℕ} (c : ℕ) where
+  pub same-number : {a : Sum} {m : ℕ} → Sums n a → a ≡ sum.Cents m → eqb c m ≡ eqb c n
+  same-number {m = m} (sums-to {m = k} e b) d = let x : k ≡ m = cc in ap (eqb c) (sym x ∙ sym e)
+  same-number (sums-above h) d = let z : _≡_ {A = ℕ} 0 1 = cc in absurd (omega (arith, z))
+
+  pub never-same : {a : Sum} → Sums n a → a ≡ sum.TooLarge → c < 2 ^ 64 → false ≡ eqb c n
+  never-same (sums-to e b) d h = let z : _≡_ {A = ℕ} 0 1 = cc in absurd (omega (arith, z))
+  never-same (sums-above k) d h = sym (ne-eqb c n (λ e. absurd (omega arith)))

@@ -1,0 +1,65 @@
+use borrow.Author.Needs.{needs}
+use Prim.Native.Nat.{_+_, _-_, _^_, _<_, _≤_}
+use mathlib.Core.Path.{_≡_}
+use mathlib.Core.List.{List}
+use lib.ListN.{length}
+use Rattle.paper.specs.Payments.{Payment}
+use Rattle.paper.specs.Accepted.{All}
+use Rattle.rule_limits.specs.Ordered.{PaymentsAt}
+use Rattle.tree_leaves.specs.Readable.{ReadPayment}
+use Rattle.rule_totals.proofs.Amounts.{Summing, summing, sum-goes, sum-exceeds, sum-ends}
+use Rattle.rule_totals.proofs.sum_of.Statement.{statement}
+use Rattle.rule_totals.proofs.sum_of.Tie as tie
+
+abbrev Inv-loop : tie.InvT-loop
+Inv-loop s tree out from to sum₀ k₀ sum k = (sum < 2 ^ 64) × ((ps : List Payment) → PaymentsAt s tree out from ps → to ≡ from + length ps → to ≤ 64 → All ReadPayment ps → Summing s tree out ps sum k to)
+
+abbrev μ-loop : tie.MeasureT-loop
+μ-loop s tree out from to sum₀ k₀ sum k = to - k
+
+loop-holds : tie.Need-loop-holds Inv-loop μ-loop
+loop-holds c = (search needs, λ ps a e f h. summing a e h)
+
+own-at-requires : tie.Need-own-at-requires Inv-loop μ-loop
+own-at-requires c κs = search needs
+
+amount-requires : tie.Need-amount-requires Inv-loop μ-loop
+amount-requires c κs = search needs
+
+sub-if1 : tie.Need-sub-if1 Inv-loop μ-loop
+sub-if1 c = search needs
+
+returns : tie.Need-returns Inv-loop μ-loop
+returns c = λ ps a e f h. sum-exceeds (c .before .before .before .before .loop .inv .1 ps a e f h) (c .before .before .before .loop-test .taken) f (c .before .before .own-at .ensures) (c .before .amount .ensures) (c .before .before .before .before .loop .inv .0) (c .if1 .taken)
+
+add-sum : tie.Need-add-sum Inv-loop μ-loop
+add-sum c = search needs
+
+add-k : tie.Need-add-k Inv-loop μ-loop
+add-k c = search needs
+
+loop-less : tie.Need-loop-less Inv-loop μ-loop
+loop-less c = search needs
+
+loop-again : tie.Need-loop-again Inv-loop μ-loop
+loop-again c = (search needs, λ ps a e f h. sum-goes (c .before .before .before .before .loop .inv .1 ps a e f h) (c .before .before .before .loop-test .taken) f (c .before .before .own-at .ensures) (c .before .amount .ensures))
+
+returns-2 : tie.Need-returns-2 Inv-loop μ-loop
+returns-2 c = λ ps a e f h. sum-ends (c .before .loop .inv .1 ps a e f h) (c .loop-test .left) (c .before .loop .inv .0)
+
+pub sum-of-spec : {M : Type 1} → statement M
+sum-of-spec =
+    tie.close
+    (tie.spec
+    Inv-loop
+    μ-loop
+    loop-holds
+    own-at-requires
+    amount-requires
+    sub-if1
+    returns
+    add-sum
+    add-k
+    loop-less
+    loop-again
+    returns-2)

@@ -1,0 +1,202 @@
+-- The stages of the verdict, one after the other.
+use Prim.Native.Nat.{ℕ, _≤_, _<_}
+use native.Mathlib.Omega.{arith}
+use mathlib.Core.List.{List}
+use mathlib.Core.Option.{Option, none, some}
+use mathlib.Core.Path.{_≡_, refl, sym, _∙_, ap, subst}
+use borrow.Author.Tests.{le-ltb}
+use lib.ListN.{length}
+use Rattle.paper.specs.Form.{Element}
+use Rattle.paper.specs.Computed.Reading.{read, root-is}
+use Rattle.paper.specs.Rows.{rows}
+use Rattle.paper.specs.Payments.{blocks, payments, total}
+use Rattle.paper.specs.Refusals.{Refusal, refuse, _or-else_, size-refusal, refused-as, accepted-with, unless-refused, of-reading, outcome-alone, answer-to, tree-refusal, rows-refusal, limits-refusal, values-refusal, usage-refusal, ids-refusal, total-refusal, counts-refusal}
+use Rattle.paper.specs.Answers.{refusal-of, numbered, refusal-found, verdict-says}
+use Rattle.verdict_answers.proofs.Agreement.{one-verdict}
+use Rattle.paper.specs.declared.Fault.{Fault}
+use Rattle.paper.specs.declared.Fault.the-variants.{TooMany, TotalTooLarge}
+use Rattle.paper.specs.declared.Finding.{Finding}
+use Rattle.paper.specs.declared.Finding.the-variants as finding
+use Rattle.paper.specs.declared.Verdict.{Verdict}
+use Rattle.paper.specs.declared.Verdict.the-variants.{Accepted, Refused}
+use Rattle.tree.specs.Laid.{Laid}
+use Rattle.rule_limits.specs.Ordered.{Ordered, Few, Limited, is-within, is-excess}
+use Rattle.rule_limits.specs.declared.Limits.{Limits}
+use Rattle.rule_limits.specs.declared.Limits.the-variants.{Within, Excess}
+use Rattle.rule_totals.specs.Totals.{Totals, total-is, total-above}
+use Rattle.rule_totals.specs.declared.Total.{Total}
+use Rattle.rule_totals.specs.declared.Total.the-variants as totalled
+use Rattle.verdict_shape.specs.Shaped.{Shaped, not-shaped, is-shaped}
+use Rattle.verdict_stages.specs.Decided.{Passes, refuses, accepts, Decided, decided-refused, decided-accepted}
+use Rattle.verdict_stages.proofs.Readable.{readable}
+use Rattle.paper_acceptance.proofs.OneWalk.{rows-first}
+use Rattle.verdict_stages.proofs.Fits.{fits}
+
+of-the-form : (s : List ℕ) {root : Element} → length s ≤ 32768 → read s ≡ root-is root → outcome-alone rows s ≡ unless-refused (tree-refusal rows root) (accepted-with root)
+unfolding outcome-alone size-refusal refuse unless-refused of-reading
+of-the-form s h e = rw (le-ltb 32768 (length s) h, e)
+
+-- a finding that refuses, and one that does not
+found-refused : {f : Finding} {x : Fault} {a : Option Refusal} → refusal-found f ≡ a → f ≡ finding.Refused x → a ≡ some (refusal-of x)
+unfolding refusal-found
+found-refused e d = sym e ∙ rw d
+
+found-none : {f : Finding} {a : Option Refusal} → refusal-found f ≡ a → f ≡ finding.Nothing → a ≡ none
+unfolding refusal-found
+found-none e d = sym e ∙ rw d
+
+pub found-as : {f g : Finding} {a : Option Refusal} → refusal-found f ≡ a → f ≡ g → refusal-found g ≡ a
+found-as e d = sym (ap refusal-found d) ∙ e
+
+module _ {s tree order : List ℕ} {root : Element} {f : Finding} (a b : Option Refusal) (is : refusal-found f ≡ a) where
+  pub first-refuses : {x : Fault} → f ≡ finding.Refused x → Passes s tree order root (a or-else b) (Refused x)
+  unfolding _or-else_
+  first-refuses {x} d = refuses {f = x} (rw (found-refused is d))
+
+  pub later-passes : {v : Verdict} → f ≡ finding.Nothing → Passes s tree order root b v → Passes s tree order root (a or-else b) v
+  unfolding _or-else_
+  later-passes d h = rw (found-none is d) h
+
+-- 21, then 12 and 13
+total-answers : {root : Element} {t : Total} {offset : ℕ} → Totals root t → t ≡ totalled.TooLarge offset → total-refusal root ≡ some (refusal-of (TotalTooLarge offset))
+unfolding refuse refusal-of numbered
+total-answers {root} (total-is e n) d = let z : _≡_ {A = ℕ} 0 1 = cc in absurd (omega (arith, z))
+total-answers {root} {offset = offset} (total-above {offset = o} e) d = let f : o ≡ offset = cc in e ∙ ap (λ (n : ℕ). refuse 21 7 n) f
+
+total-fits : {root : Element} {t : Total} {n : ℕ} → Totals root t → t ≡ totalled.Cents n → (total-refusal root ≡ none) × (n ≡ total root)
+total-fits {root} {n = n} (total-is {n = m} e f) d = let g : m ≡ n = cc in (e, sym g ∙ sym f)
+total-fits (total-above e) d = let z : _≡_ {A = ℕ} 0 1 = cc in absurd (omega (arith, z))
+
+module _ {s tree order : List ℕ} {root : Element} {t : Total} (h : Totals root t) where
+  pub total-refused : {offset : ℕ} → t ≡ totalled.TooLarge offset → Passes s tree order root (total-refusal root or-else counts-refusal root) (Refused (TotalTooLarge offset))
+  unfolding _or-else_
+  total-refused {offset} e = refuses {f = TotalTooLarge offset} (rw (total-answers h e))
+
+  module _ {n : ℕ} {f : Finding} (e : t ≡ totalled.Cents n) (is : refusal-found f ≡ counts-refusal root) where
+    pub counts-refused : {x : Fault} → f ≡ finding.Refused x → Passes s tree order root (total-refusal root or-else counts-refusal root) (Refused x)
+    unfolding _or-else_
+    counts-refused {x} d = refuses {f = x} (rw (total-fits h e .0) (found-refused is d))
+
+    pub all-passed : {b p : ℕ} → f ≡ finding.Nothing → Ordered s tree order root → b ≡ length (blocks root) → p ≡ length (payments root) → p ≤ 64 → b ≤ 16
+        → values-refusal rows root ≡ none → Passes s tree order root (total-refusal root or-else counts-refusal root) (Accepted b p n)
+    unfolding _or-else_
+    all-passed {b} {p} d o x y few small v =
+        accepts (rw (total-fits h e .0) (found-none is d))
+        (record {
+          ordered = o;
+          blocks-are = x;
+          payments-are = y;
+          few = few;
+          total-is = total-fits h e .1;
+          readable = readable root v;
+          fitting = fits root v (omega (arith, x, small));
+        })
+
+pub the-total : {root : Element} {t : Total} {n : ℕ} → Totals root t → t ≡ totalled.Cents n → n ≡ total root
+the-total h e = total-fits h e .1
+
+pub no-values-refusal : (root : Element) {f : Finding} → refusal-found f ≡ values-refusal rows root → f ≡ finding.Nothing → values-refusal rows root ≡ none
+no-values-refusal root e d = found-none e d
+
+-- 3 and 4
+pub rows-refused : {s tree order : List ℕ} {root : Element} {f : Finding} → refusal-found f ≡ rows-refusal rows root → {x : Fault} → f ≡ finding.Refused x
+    → Passes s tree order root (tree-refusal rows root) (Refused x)
+unfolding tree-refusal
+rows-refused is d = first-refuses _ _ is d
+
+pub rows-refused-first : {s tree order : List ℕ} {root : Element} {f : Finding} → refusal-found f ≡ values-refusal rows root → {x : Fault} → f ≡ finding.Refused x
+    → refusal-of x .number < 5 → Passes s tree order root (tree-refusal rows root) (Refused x)
+unfolding tree-refusal _or-else_
+rows-refused-first {root = root} is {x} d l = refuses {f = x} (rw (rows-first rows root (found-refused is d) l))
+
+pub no-rows-refusal : (root : Element) {f : Finding} → refusal-found f ≡ rows-refusal rows root → f ≡ finding.Nothing → rows-refusal rows root ≡ none
+no-rows-refusal root e d = found-none e d
+
+-- then 5
+module _ {s tree order : List ℕ} {root : Element} (none-of-rows : rows-refusal rows root ≡ none) where
+  module _ {l : Limits} (within : Limited s tree order root l) where
+    pub limits-refused : {element offset : ℕ} → l ≡ Excess element offset → Passes s tree order root (tree-refusal rows root) (Refused (TooMany element offset))
+    unfolding tree-refusal _or-else_ refuse refusal-of numbered
+    limits-refused {element} {offset} e = rw none-of-rows (go within e)
+      where
+        go : {l : Limits} → Limited s tree order root l → l ≡ Excess element offset
+            → Passes s tree order root (limits-refusal root or-else (values-refusal rows root or-else (usage-refusal root or-else (ids-refusal root or-else (total-refusal root or-else counts-refusal root)))))
+            (Refused (TooMany element offset))
+        go (is-within a b c o) e = let z : _≡_ {A = ℕ} 0 1 = cc in absurd (omega (arith, z))
+        go (is-excess {element = x} {offset = y} a) e =
+            let g : x ≡ element = cc in
+            let h : y ≡ offset = cc in
+            refuses {f = TooMany element offset} (rw a (ap (λ (n : ℕ). refuse 5 n y) g ∙ ap (λ (n : ℕ). refuse 5 element n) h))
+
+    pub limits-passed : {b p : ℕ} {v : Verdict} → l ≡ Within b p → 208 ≤ length order
+        → (Ordered s tree order root → b ≡ length (blocks root) → p ≡ length (payments root)
+        → Passes s tree order root (values-refusal rows root or-else (usage-refusal root or-else (ids-refusal root or-else (total-refusal root or-else counts-refusal root)))) v)
+        → Passes s tree order root (tree-refusal rows root) v
+    unfolding tree-refusal _or-else_
+    limits-passed {b} {p} {v} e room then = rw none-of-rows (go within e)
+      where
+        go : {l : Limits} → Limited s tree order root l → l ≡ Within b p
+            → Passes s tree order root (limits-refusal root or-else (values-refusal rows root or-else (usage-refusal root or-else (ids-refusal root or-else (total-refusal root or-else counts-refusal root))))) v
+        go (is-within {b = x} {p = y} a m n o) e =
+            let g : x ≡ b = cc in
+            let h : y ≡ p = cc in
+            rw a (then (o room) (sym g ∙ sym m) (sym h ∙ sym n))
+        go (is-excess a) e = let z : _≡_ {A = ℕ} 0 1 = cc in absurd (omega (arith, z))
+
+-- at most 16 blocks and 64 payments
+pub few-blocks : {l : Limits} {b p : ℕ} → Few l → l ≡ Within b p → b ≤ 16
+few-blocks {l} {b} {p} f e = go l f e
+  where
+    go : (l : Limits) → Few l → l ≡ Within b p → b ≤ 16
+    go (Within x y) f e = let g : x ≡ b = cc in subst (λ (n : ℕ). n ≤ 16) g (f .0)
+    go (Excess x y) f e = let z : _≡_ {A = ℕ} 0 1 = cc in absurd (omega (arith, z))
+
+pub few-payments : {l : Limits} {b p : ℕ} → Few l → l ≡ Within b p → p ≤ 64
+few-payments {l} {b} {p} f e = go l f e
+  where
+    go : (l : Limits) → Few l → l ≡ Within b p → p ≤ 64
+    go (Within x y) f e = let g : y ≡ p = cc in subst (λ (n : ℕ). n ≤ 64) g (f .1)
+    go (Excess x y) f e = let z : _≡_ {A = ℕ} 0 1 = cc in absurd (omega (arith, z))
+
+-- the whole outcome
+outcome-refused : (root : Element) (x : Fault) → tree-refusal rows root ≡ some (refusal-of x) → unless-refused (tree-refusal rows root) (accepted-with root) ≡ refused-as (refusal-of x)
+unfolding unless-refused
+outcome-refused root x e = rw e
+
+outcome-accepted : (root : Element) → tree-refusal rows root ≡ none → unless-refused (tree-refusal rows root) (accepted-with root) ≡ accepted-with root
+unfolding unless-refused
+outcome-accepted root e = rw e
+
+decide : {s tree order : List ℕ} {root : Element} {next : ℕ} → length s ≤ 32768 → read s ≡ root-is root → Laid s tree root 0 next → {v : Verdict}
+    → Passes s tree order root (tree-refusal rows root) v → Decided s tree order v
+decide {s} {root = root} l r t (refuses {f = x} e) = decided-refused (of-the-form s l r ∙ outcome-refused root x e)
+decide {s} {root = root} l r t (accepts e p) = decided-accepted l (of-the-form s l r ∙ outcome-accepted root e) t p
+
+module _ {s tree order : List ℕ} {f : Finding} (h : Shaped s tree f) where
+  pub shape-decides : {x : Fault} → f ≡ finding.Refused x → Decided s tree order (Refused x)
+  shape-decides {x} e = go h e
+    where
+      go : {f : Finding} → Shaped s tree f → f ≡ finding.Refused x → Decided s tree order (Refused x)
+      go (not-shaped {f = y} o) e = let g : y ≡ x = cc in decided-refused (o ∙ ap (λ (z : Fault). refused-as (refusal-of z)) g)
+      go (is-shaped l r t) e = let z : _≡_ {A = ℕ} 0 1 = cc in absurd (omega (arith, z))
+
+  pub stages-decide : {v : Verdict} → f ≡ finding.Nothing → ((root : Element) (next : ℕ) → Laid s tree root 0 next → Passes s tree order root (tree-refusal rows root) v) → Decided s tree order v
+  stages-decide {v} e passes = go h e
+    where
+      go : {f : Finding} → Shaped s tree f → f ≡ finding.Nothing → Decided s tree order v
+      go (not-shaped o) e = let z : _≡_ {A = ℕ} 0 1 = cc in absurd (omega (arith, z))
+      go (is-shaped {root = root} {next = next} l r t) e = decide l r t (passes root next t)
+
+-- a message that was refused is refused where no table is lent
+pub refused-has : {s tree order : List ℕ} {v : Verdict} {f : Fault} → Decided s tree order v → v ≡ Refused f → outcome-alone rows s ≡ refused-as (refusal-of f)
+refused-has {f = f} (decided-refused {f = x} o) e = let g : x ≡ f = cc in o ∙ ap (λ (z : Fault). refused-as (refusal-of z)) g
+refused-has (decided-accepted l o t q) e = let z : _≡_ {A = ℕ} 0 1 = cc in absurd (omega (arith, z))
+
+-- Two answers that meet `outcome`'s contract agree.
+decided-says : {s tree order : List ℕ} {v : Verdict} → Decided s tree order v → verdict-says v ≡ answer-to (outcome-alone rows s)
+unfolding verdict-says answer-to
+decided-says (decided-refused e) = rw e refl
+decided-says (decided-accepted h e l p) = rw (e, p .blocks-are, p .payments-are, p .total-is) refl
+
+pub decided-agree : {s tree order other-tree other-order : List ℕ} (v w : Verdict) → Decided s tree order v → Decided s other-tree other-order w → v ≡ w
+decided-agree v w a b = one-verdict v w (decided-says a ∙ sym (decided-says b))

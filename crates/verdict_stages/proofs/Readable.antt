@@ -1,0 +1,84 @@
+-- Where the walk of 6 to 8 refuses nothing, counts, sums and amounts can be read as numbers.
+use Prim.Native.Nat.{ℕ, _≤_}
+use mathlib.Core.List.{List, [], _∷_}
+use mathlib.Core.Bool.{true, not}
+use mathlib.Core.Option.{none, some}
+use mathlib.Core.Path.{_≡_, refl, sym, _∙_}
+use borrow.Author.Tests.{le-leb, leb-true}
+use native.Mathlib.Omega.{arith}
+use lib.ListN.{length}
+use lib.Dec.{leb}
+use Rattle.paper.specs.Bytes.{bytes, every, digit, same}
+use Rattle.paper.specs.Form.{Head, Element}
+use Rattle.paper.specs.Rows.{rows, row-of, leaf, group, group-under, longest-of}
+use Rattle.paper.specs.Values.{among, lies-from, digits, count, money, amount, cents, right-for, spaces-alone, allowed}
+use Rattle.paper.specs.Payments.{Payment, text-of, follow, of-header, payments}
+use Rattle.paper.specs.Refusals.{values-refusal}
+use Rattle.paper.specs.Accepted.{All, RightText}
+use Rattle.paper.proofs.Laws.{both, both-left, both-right, all-map}
+use Rattle.paper_acceptance.proofs.Proper.{rows-proper}
+use Rattle.paper_acceptance.proofs.Present.{PaymentAs}
+use Rattle.paper_acceptance.proofs.RightValues.{RightAs, header-right, blocks-right, payments-right, block-leaf-right, amount-right}
+use Rattle.tree_leaves.specs.Readable.{ReadBlock, Readable}
+
+-- a right count of a row that takes at most fifteen bytes; right money; a right amount
+right-value : (parent row : ℕ) (currency w : List ℕ) → allowed parent row currency w ≡ true → right-for parent row currency w ≡ true
+unfolding allowed
+right-value parent row currency w e = both-right (not (spaces-alone w)) _ e
+
+count-read : (parent k : ℕ) {h : Head} {w : List ℕ} → RightText parent (row-of rows parent k) h w → longest-of (row-of rows parent k .holds) ≡ 15
+    → ((currency : List ℕ) → right-for parent (row-of rows parent k .row) currency w ≡ count w) → digits 1 15 w ≡ true
+unfolding digits lies-from count
+count-read parent k {w = w} r l a =
+    both (both (le-leb 1 (length w) (r .not-empty)) (le-leb (length w) 15 (omega (arith, r .not-too-long, l))))
+    (both-right (leb 1 (length w)) (every digit w) (sym (a _) ∙ right-value _ _ _ w (r .value)))
+
+money-read : (parent k : ℕ) {h : Head} {w : List ℕ} → RightText parent (row-of rows parent k) h w
+    → ((currency : List ℕ) → right-for parent (row-of rows parent k .row) currency w ≡ money w) → money w ≡ true
+money-read parent k {w = w} r a = sym (a _) ∙ right-value _ _ _ w (r .value)
+
+amount-read : {h : Head} {w : List ℕ} → RightText 41 (row-of rows 41 42) h w → amount w ≡ true
+unfolding right-for rows row-of leaf group group-under bytes among
+amount-read {h} {w} r = both-left (amount w) (same (h .currency) (bytes "EUR")) (right-value _ _ _ w (r .value))
+
+amount-money : (w : List ℕ) → amount w ≡ true → money w ≡ true
+unfolding amount
+amount-money w e = both-left (money w) _ e
+
+pub amount-small : (w : List ℕ) → amount w ≡ true → cents w ≤ 99999999999
+unfolding amount lies-from
+amount-small w e = leb-true (cents w) 99999999999 (both-right (leb 1 (cents w)) _ (both-right (money w) _ e))
+
+amount-of-payment : (p : Payment) → PaymentAs rows rows-proper RightText p → (u : Element) → follow (41 ∷ 42 ∷ []) (p .own) ≡ some u → amount (text-of u) ≡ true
+unfolding rows row-of leaf group group-under bytes
+amount-of-payment p c u e = amount-read (amount-right rows rows-proper (p .own) (c .own-as) 18 u refl e)
+
+in-block : (b : Element) → RightAs rows rows-proper 2 10 b → ReadBlock b
+unfolding right-for rows row-of leaf group group-under bytes among longest-of
+in-block b c =
+    record {
+      count = λ t e. count-read 10 14 (block-leaf-right rows rows-proper b c 14 15 t (rows-proper .block-count) refl e) refl (λ _. refl);
+      sum = λ t e. money-read 10 15 (block-leaf-right rows rows-proper b c 15 18 t (rows-proper .block-sum) refl e) (λ _. refl);
+    }
+
+module _ (root : Element) (right : values-refusal rows root ≡ none) where
+  header-count : (t : Element) → of-header 6 root ≡ some t → digits 1 15 (text-of t) ≡ true
+  unfolding right-for rows row-of leaf group group-under bytes among longest-of
+  header-count t e = count-read 3 6 (header-right rows rows-proper root right 6 15 t (rows-proper .header-count) refl e) refl (λ c. refl)
+
+  header-sum : (t : Element) → of-header 7 root ≡ some t → money (text-of t) ≡ true
+  unfolding right-for rows row-of leaf group group-under bytes among longest-of
+  header-sum t e = money-read 3 7 (header-right rows rows-proper root right 7 18 t (rows-proper .header-sum) refl e) (λ c. refl)
+
+  pub readable : Readable root
+  readable =
+      record {
+        header-count = header-count;
+        header-sum = header-sum;
+        in-blocks = all-map in-block (blocks-right rows rows-proper root right);
+        in-payments = all-map (λ p c. record { amount = λ u e. amount-money (text-of u) (amount-of-payment p c u e) }) (payments-right rows rows-proper root right);
+      }
+
+  -- the amounts of the payments lie within row 42's limits
+  pub small-amounts : All (λ (p : Payment). (u : Element) → follow (41 ∷ 42 ∷ []) (p .own) ≡ some u → cents (text-of u) ≤ 99999999999) (payments root)
+  small-amounts = all-map (λ p c u e. amount-small (text-of u) (amount-of-payment p c u e)) (payments-right rows rows-proper root right)

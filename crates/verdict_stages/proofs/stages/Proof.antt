@@ -1,0 +1,81 @@
+use Rattle.rows.specs.Walk.{refusal-by}
+use Rattle.paper.specs.Rows.{rows}
+use Rattle.paper_acceptance.proofs.OneWalk.{rows-too}
+use Rattle.verdict_stages.proofs.InTurn.{rows-refused, rows-refused-first, no-rows-refusal, no-values-refusal, found-as}
+use borrow.Author.Needs.{needs}
+use Rattle.verdict_stages.proofs.stages.Statement.{statement}
+use Rattle.verdict_stages.proofs.stages.Tie as tie
+use Rattle.verdict_stages.proofs.stages.Reads as reads
+use Rattle.verdict_stages.proofs.stages.Lts as lts
+use Rattle.rows.proofs.check.Reads as check-reads
+use Rattle.verdict_stages.proofs.limited.Reads as limited-reads
+use Rattle.verdict_stages.proofs.of_rows.Reads as of-rows-reads
+
+check-requires : tie.Need-check-requires
+check-requires c κs = search needs
+
+enum-told : tie.Need-enum-told
+enum-told c = search needs
+
+limited-requires : tie.Need-limited-requires
+limited-requires c κs = search needs
+
+enum-known-values : tie.Need-enum-known-values
+enum-known-values c = search needs
+
+of-rows-requires : tie.Need-of-rows-requires
+of-rows-requires c κs = search needs
+
+returns : tie.Need-returns
+unfolding refusal-by
+returns c = λ root next l room. rows-refused-first (c .before .before .before .before .before .check .ensures root next l) (c .before .before .before .values .given .1) (c .before .of-rows .ensures (c .if1 .taken))
+
+check-requires-2 : tie.Need-check-requires-2
+check-requires-2 c κs = search needs
+
+enum-known-shape : tie.Need-enum-known-shape
+enum-known-shape c = search needs
+
+returns-2 : tie.Need-returns-2
+unfolding refusal-by
+returns-2 c = λ root next l room. rows-refused (c .before .before .before .check2 .ensures root next l) (c .before .shape .given .1)
+
+enum-told-2 : tie.Need-enum-told-2
+enum-told-2 c = search needs
+
+limited-requires-2 : tie.Need-limited-requires-2
+limited-requires-2 c κs = search needs
+
+same-length : tie.Need-same-length
+same-length c = search needs
+
+returns-3 : tie.Need-returns-3
+unfolding refusal-by
+returns-3 c = λ root next l room. c .before .before .limited .ensures root next l room (rows-too rows root (no-values-refusal root (c .before .before .before .before .before .before .check .ensures root next l) (c .before .before .before .before .enum-told .given .1))) (found-as (c .before .before .before .before .before .before .check .ensures root next l) (c .before .before .before .before .enum-told .given .1))
+
+same-length-2 : tie.Need-same-length-2
+same-length-2 c = search needs
+
+returns-4 : tie.Need-returns-4
+unfolding refusal-by
+returns-4 c = λ root next l room. c .before .before .limited2 .ensures root next l room (no-rows-refusal root (c .before .before .before .before .before .before .check2 .ensures root next l) (c .before .before .before .before .enum-told2 .given .1)) (found-as (c .before .before .before .before .before .before .before .before .before .before .before .before .check .ensures root next l) (c .before .before .before .before .before .before .before .before .before .before .values .given .1))
+
+pub stages-spec : {M : Type 1} → statement M
+stages-spec =
+    tie.close
+    (tie.spec
+    check-requires
+    enum-told
+    limited-requires
+    enum-known-values
+    of-rows-requires
+    returns
+    check-requires-2
+    enum-known-shape
+    returns-2
+    enum-told-2
+    limited-requires-2
+    same-length
+    returns-3
+    same-length-2
+    returns-4)
