@@ -1,23 +1,49 @@
 -- How the machine runs on over what an element holds: text, children, end tags; and over a child.
-use Prim.Native.Nat.{ℕ, suc, _+_, _-_, _≤_, _<_}
+use Prim.Native.Nat.{ℕ, zero, suc, _+_, _*_, _-_, _≤_, _<_}
 use mathlib.Core.List.{List, [], _∷_, _++_}
 use mathlib.Core.Option.{none, some}
 use mathlib.Core.Bool.{Bool, true, false}
-use mathlib.Core.Path.{_≡_, refl, sym, ap, _∙_}
+use mathlib.Core.Path.{_≡_, refl, sym, ap, subst, _∙_}
 use mathlib.Core.Logic.{_⊎_, inl, inr, ⊎-elim}
 use native.Mathlib.Decide.{decLe}
 use native.Mathlib.Omega.{arith}
 use lib.ListN.{length, getD, take, drop}
+use lib.Seq.{drop-cons}
 use lib.Dec.{eqb}
 use borrow.Author.Tests.{eqb-true, eqb-false, ne-eqb, le-leb, lt-leb}
-use Rattle.paper.specs.Bytes.{bytes, is, from-to, one-of, white, text-byte, capital, letter, letter-or-digit}
+use Rattle.paper.specs.Bytes.{bytes, is, from-to, one-of, white, text-byte, value-character, capital, letter, letter-or-digit, Every, every-none, every-more}
 use Rattle.paper.specs.Form.{Element, Elements, holding-text, holding-elements, []ᵉ, _∷ᵉ_, end-tag}
+use Rattle.paper.specs.Rows.{head-of}
 use Rattle.paper.specs.Computed.Reading.{Open, closed, State, angle, naming, blank, in-text, after-child, want, ending, step, ended, stops-at}
-use Rattle.form_scans.specs.Scans.{from, Scanned, stops, Word, Tag, Opened, White, Name, Text, Child, ChildAt, TextOf, ContentOf, ElementAt}
+use Rattle.form_scans.specs.Scans.{from, Scanned, to, stops, Along, White, Values, Text}
+use Rattle.tree.specs.Laid.{between}
+use Rattle.form.specs.Reads.{Kept, Roomy, Numbered, AllNumbered, none-numbered, more-numbered, Child, ChildAt, Known, HeldTo, HeldAt, held-scan, held-next, close-of, read-scan, read-next, Holds, Whole, ContentRead, Placed, ElementRead}
 use Rattle.form_scans.specs.declared.Scan.{Scan}
 use Rattle.form_scans.specs.declared.Scan.the-variants.{To, StopsAt}
+use Rattle.form.specs.declared.Read.{Read}
+use Rattle.form.specs.declared.Read.the-variants as read
+use Rattle.form.specs.declared.Held.{Held}
+use Rattle.form.specs.declared.Held.the-variants as held
 use Rattle.paper_grammar.proofs.Complete.{among-stays}
 use Rattle.form_scans.proofs.Laws.{from-next, from-stuck, from-short, want-step, want-stuck, want-append, text-step, reached, halts, first, via, giving, chain}
+use Rattle.form.proofs.Numbering.{kept-same, kept-on, Agree, agree-same, agree-on, kept-agree, narrow, numbered-stays}
+
+unfoldable went-on : Held → ℕ
+went-on (held.To close next known) = 0
+went-on (held.StopsAt n) = 1
+
+no-held : {n c m k : ℕ} → held.StopsAt n ≡ held.To c m k → ⊥
+unfolding went-on
+no-held e = let z : _≡_ {A = ℕ} 1 0 = ap went-on e in omega (arith, z)
+
+unfoldable known-of : Held → ℕ
+known-of (held.To close next known) = known
+known-of (held.StopsAt n) = 0
+
+-- the parts of an answer
+held-parts : {c n k c′ n′ k′ : ℕ} → held.To c n k ≡ held.To c′ n′ k′ → (c ≡ c′) × (n ≡ n′) × (k ≡ k′)
+unfolding close-of held-next known-of
+held-parts e = (ap close-of e, ap held-next e, ap known-of e)
 
 -- two states from which the machine runs alike
 module _ (s : List ℕ) (q r : State) (p : ℕ) where
@@ -137,163 +163,252 @@ module _ (s : List ℕ) (o : Open) (k : Element → State) (p : ℕ) where
       ≡ from s (angle (suc (o .depth)) p (ending o (holding-elements (closed o p) (f []ᵉ)) k) (λ t. after-child o (λ ts. f (t ∷ᵉ ts)) k)) (p + 1)
   among-child f c = from-next s _ p (omega (arith, c .within)) (among-angle o k p (getD s p 0) f (c .angled))
 
--- A whole text of an element; then what an element holds, by what stands first in it.
-pub text-read : {s name : List ℕ} {at p : ℕ} {r : Scan} → Text s at p → Word s p (end-tag name) r → TextOf s name at r
-text-read {s} {name} {at} {p} t h o w e =
-    let (w′, f) = t .along .texts o w in
-    first (t .along .rises) (λ k. f k ∙ text-ends s o k p w′ (t .other) ∙ ap (λ n. from s (want (end-tag n) (k (holding-text (closed o p) w′))) p) e)
-    (giving (λ _. holding-text (closed o p) w′) (λ k _. refl) (via (λ k. k (holding-text (closed o p) w′)) h))
+-- What has been read of an element's contents: nothing, or children, which the machine is behind and which have their numbers, whatever is put down after them.
+pub record SoFar (s tree : List ℕ) (o : Open) (start i at next : ℕ) : Type 0 where
+  pub before-these : Elements → Elements
+  pub runs : (k : Element → State) → from s (blank o [] k) start ≡ from s (after-child o before-these k) at
+  pub numbered : Roomy s tree → (tree′ : List ℕ) → Agree tree tree′ i next → (ts : Elements) (n : ℕ) → AllNumbered s tree′ ts next n
+      → AllNumbered s tree′ (before-these ts) i n
 
-pub content-text : {s name : List ℕ} {at p left : ℕ} {c : Bool} {r : Scan} → White s at p → ChildAt s p c → c ≡ false → TextOf s name p r
-    → ContentOf s name at left r
-content-text {s} {p} w c n h = record {
-  reads = λ o e d.
-      let (w′, f) = w .through .blanks o [] in
-      first (w .through .rises) (λ k. f k ∙ blank-is-text s o k p w′ (w .other) (c .not-there n)) (h o w′ e);
-}
-
-pub element-bounds : {s : List ℕ} {at left q : ℕ} {r : Scan} → left ≤ 12 → ElementAt s at left r → r ≡ To q → (at ≤ q) × (q ≤ length s)
-element-bounds {left} l x z = let g = reached (x .reads (13 - left) 0 (omega arith)) z in (g .rises, g .within)
-
--- Children have been passed, from where what the element holds starts to an offset.
-abbrev Passes : (s : List ℕ) (left start at : ℕ) → Type 0
-Passes s left start at =
-    (o : Open) → o .depth + left ≡ 12 → (f : Elements → Elements) × ((k : Element → State) → from s (blank o [] k) start ≡ from s (after-child o f k) at)
-
--- Nothing has been passed yet, or children.
-pub record Passed (s : List ℕ) (left start at : ℕ) : Type 0 where
+pub record Passed (s before tree : List ℕ) (left start i at next : ℕ) : Type 0 where
+  pub kept : Kept before tree i
   pub rises : start ≤ at
   pub within : at ≤ length s
-  pub passes : (at ≡ start) ⊎ Passes s left start at
+  pub counted : i ≤ next
+  pub enough : 7 * next + start ≤ 7 * i + at
+  pub passes : ((at ≡ start) × (next ≡ i)) ⊎ ((i < next) × ((o : Open) → o .depth + left ≡ 12 → SoFar s tree o start i at next))
 
-pub none-passed : (s : List ℕ) (left start : ℕ) → start ≤ length s → Passed s left start start
-none-passed s left start h = record { rises = omega arith; within = h; passes = inl refl }
+pub none-passed : (s tree : List ℕ) (left start i : ℕ) → start ≤ length s → Passed s tree tree left start i start i
+none-passed s tree left start i h =
+    record { kept = kept-same; rises = omega arith; within = h; counted = omega arith; enough = omega arith; passes = inl (refl, refl) }
 
--- behind children, the end tag
-pub content-end : {s name : List ℕ} {left start at p : ℕ} {c : Bool} {r : Scan} → Passed s left start at → White s at p → ChildAt s p c → c ≡ false
-    → (at ≡ start → ⊥) → Word s p (end-tag name) r → ContentOf s name start left r
-content-end {s} {name} {left} {start} {at} {p} {r = r} b w h n m g =
-    ⊎-elim (λ e. absurd (m e)) go (b .passes)
-  where
-    go : Passes s left start at → ContentOf s name start left r
-    go f = record {
-      reads = λ o e d.
-          let (f′, i) = f o d in
-          let l = b .rises in
-          let l′ = w .through .rises in
-          first (omega arith)
-          (λ k. i k ∙ (w .through .stays (after-child o f′ k) (among-stays o f′ k)
-          ∙ (among-ends s o k p f′ (w .other) (h .not-there n) ∙ ap (λ n. from s (want (end-tag n) (k (holding-elements (closed o p) (f′ []ᵉ)))) p) e)))
-          (giving (λ _. holding-elements (closed o p) (f′ []ᵉ)) (λ k _. refl) (via (λ k. k (holding-elements (closed o p) (f′ []ᵉ))) g));
-    }
+-- the end: text, or the end tag behind children
+module _ {s before tree : List ℕ} {left start i at next p close known : ℕ} {c : Bool} (b : Passed s before tree left start i at next) (w : White s at p)
+    (x : ChildAt s p c) (n : c ≡ false) (h : HeldTo s start at p close known) where
+  in-children : at ≡ start → ((at ≡ start) × (next ≡ i)) ⊎ ((i < next) × ((o : Open) → o .depth + left ≡ 12 → SoFar s tree o start i at next)) → next ≡ i
+  in-children z (inl (a, e)) = e
+  in-children z (inr (l, _)) = let e = b .enough in absurd (omega (arith, z, l, e))
 
--- one more child
-module _ {s : List ℕ} {left start at p : ℕ} {c : Bool} {r : Scan} (b : Passed s left start at) (w : White s at p) (h : ChildAt s p c) (e : c ≡ true)
-    (x : ElementAt s (p + 1) left r) where
-  Next : Type 0
-  Next = (o : Open) → o .depth + left ≡ 12
-      → (f : Elements → Elements) × Scanned s start (blank o []) (λ k (t : Element). after-child o (λ ts. f (t ∷ᵉ ts)) k) r
+  no-more : (at ≡ start → ⊥) → (i < next) × ((o : Open) → o .depth + left ≡ 12 → SoFar s tree o start i at next)
+  no-more m = ⊎-elim (λ y. absurd (m (y .0))) (λ y. y) (b .passes)
 
-  next : Next
-  unfolding Next
-  next = ⊎-elim at-first then (b .passes)
-    where
-      at-first : at ≡ start → Next
-      at-first z o d =
-          let (w′, f) = (rw z at w) .through .blanks o [] in
-          let l = b .rises in
-          let l′ = w .through .rises in (
-            (λ ts. ts),
-            first (omega arith) (λ k. f k ∙ blank-child s o k p w′ (h .there e))
-                (via (λ k. (ending o (holding-text (closed o p) w′) k, λ t. after-child o (λ ts. t ∷ᵉ ts) k)) (x .reads (suc (o .depth)) p (omega arith))),
-          )
-
-      then : Passes s left start at → Next
-      then g o d =
-          let (f, i) = g o d in
-          let l = b .rises in
-          let l′ = w .through .rises in (
-            f,
-            first (omega arith) (λ k. i k ∙ (w .through .stays (after-child o f k) (among-stays o f k) ∙ among-child s o k p f (h .there e)))
-                (via (λ k. (ending o (holding-elements (closed o p) (f []ᵉ)) k, λ t. after-child o (λ ts. f (t ∷ᵉ ts)) k)) (x .reads (suc (o .depth)) p (omega arith))),
-          )
-
-  pub content-stops : {name : List ℕ} {n : ℕ} → r ≡ StopsAt n → ContentOf s name start left (StopsAt n)
-  unfolding Next
-  content-stops z = record { reads = λ o _ d. halts (next o d .1) z }
-
-  pub one-passed : left ≤ 12 → {q : ℕ} → r ≡ To q → Passed s left start q
-  unfolding Next
-  one-passed l {q} z =
-      let (l₁, l₂) = element-bounds l x z in
-      let l₃ = b .rises in
-      let l₄ = w .through .rises in
+  text-content : at ≡ start → ContentRead s before tree start i left (held.To close next known)
+  unfolding held-scan held-next close-of Holds head-of
+  text-content z =
+      let (along, over) = h .text z in
+      let l = w .through .rises in
+      let l₂ = along .rises in
+      let l₃ = along .within in
+      let y = in-children z (b .passes) in
       record {
-        rises = omega arith;
-        within = l₂;
-        passes = inr (λ o d.
-            let (f, g) = next o d in
-            let j = reached g z in
-            ((λ ts. f (j .got ∷ᵉ ts)), j .runs));
+        kept = b .kept;
+        reads = λ o d.
+            let (w₁, f) = (rw z at w) .through .blanks o [] in
+            let (w₂, g) = along .texts o w₁ in
+            to {p = close} (omega (arith, l, l₂, z)) l₃ (record { element = holding-text (closed o close) w₂; its-head = refl; holds = λ _. y })
+            (λ k. f k ∙ (blank-is-text s o k p w₁ (w .other) (x .not-there n) ∙ (g k ∙ text-ends s o k close w₂ over)));
+        goes = λ c′ n′ k′ e.
+            let (e₁, e₂, e₃) = held-parts e in (
+              omega (arith, y, e₂),
+              omega (arith, l, l₂, z, e₁),
+              omega (arith, l₃, e₁),
+              omega (arith, y, e₂, l, l₂, z, e₁),
+              subst (λ q. Known s start q k′) e₁ (subst (λ q. Known s start close q) e₃ (h .is-known (λ k a u. w .through .all-white k (omega (arith, a, z)) u) (omega (arith, l, z)) z)),
+            );
       }
 
--- a child: no letter, too deep, and its name
-module _ (s : List ℕ) (depth lt : ℕ) (q : State) (k : Element → State) (at : ℕ) (h : at < length s) where
-  angle-stuck : letter (getD s at 0) ≡ false → (getD s at 0 ≡ 47 → ⊥) → from s (angle depth lt q k) at ≡ stops-at at
-  unfolding step is
-  angle-stuck e n = from-stuck s _ at h (rw (e, ne-eqb _ 47 n))
-
-  angle-deep : letter (getD s at 0) ≡ true → 12 < depth → from s (angle depth lt q k) at ≡ stops-at at
-  unfolding step
-  angle-deep e l = from-stuck s _ at h (rw (e, lt-leb depth 12 l))
-
-  angle-names : letter (getD s at 0) ≡ true → depth ≤ 12
-      → from s (angle depth lt q k) at ≡ from s (naming depth lt (getD s at 0 ∷ []) 31 k) (at + 1)
-  angle-names e l = from-next s _ at h (name-begins e l)
+  children-content : (at ≡ start → ⊥) → ContentRead s before tree start i left (held.To close next known)
+  unfolding held-scan held-next close-of Holds head-of
+  children-content m =
+      let (j, f) = no-more m in
+      let l = b .rises in
+      let l₂ = w .through .rises in
+      let l₃ = w .through .within in
+      let q : close ≡ p = h .behind-children m in
+      let en = b .enough in
+      record {
+        kept = b .kept;
+        reads = λ o d.
+            let g = f o d in
+            subst (λ z. Scanned s start (blank o []) (λ k (a : Whole s tree o z i next). want (end-tag (o .name)) (k (a .element))) (To z)) (sym q)
+            (to {p = p} (omega (arith, l, l₂)) l₃
+            (record {
+              element = holding-elements (closed o p) (g .before-these []ᵉ);
+              its-head = refl;
+              holds = λ r. (j, g .numbered r tree agree-same []ᵉ next (none-numbered refl));
+            })
+            (λ k. g .runs k ∙ (w .through .stays (after-child o (g .before-these) k) (among-stays o (g .before-these) k)
+            ∙ among-ends s o k p (g .before-these) (w .other) (x .not-there n))));
+        goes = λ c′ n′ k′ e.
+            let (e₁, e₂, e₃) = held-parts e in (
+              omega (arith, j, e₂),
+              omega (arith, l, l₂, q, e₁),
+              omega (arith, l₃, q, e₁),
+              omega (arith, en, l₂, q, e₁, e₂),
+              nothing-known (h .nothing-known m ∙ refl) e₃,
+            );
+      }
     where
-      name-begins : letter (getD s at 0) ≡ true → depth ≤ 12 → step (angle depth lt q k) at (getD s at 0) ≡ some (naming depth lt (getD s at 0 ∷ []) 31 k)
-      name-begins e l = unfold step in rw (e, le-leb depth 12 l)
+      nothing-known : known ≡ 0 → {c′ k′ : ℕ} → known ≡ k′ → Known s start c′ k′
+      nothing-known z e = record {
+        small = omega (arith, z, e);
+        white-known = λ y. absurd (omega (arith, z, e, y));
+        values-known = λ y. absurd (omega (arith, z, e, y));
+      }
 
-pub no-letter : {s : List ℕ} {at left : ℕ} → at < length s → letter (getD s at 0) ≡ false → (getD s at 0 ≡ 47 → ⊥) → ElementAt s at left (StopsAt at)
-no-letter {s} {at} h e n = record { reads = λ depth lt _. stops (λ x. angle-stuck s depth lt (x .0) (x .1) at h e n) }
-
-pub too-deep : {s : List ℕ} {at left : ℕ} → at < length s → letter (getD s at 0) ≡ true → left ≡ 0 → ElementAt s at left (StopsAt at)
-too-deep {s} {at} h e z = record { reads = λ depth lt d. stops (λ x. angle-deep s depth lt (x .0) (x .1) at h e (omega arith)) }
-
-name-full : (depth lt : ℕ) (name : List ℕ) (k : Element → State) (at b : ℕ) → letter-or-digit b ≡ true → step (naming depth lt name 0 k) at b ≡ none
-unfolding step
-name-full depth lt name k at b e = rw e
-
-module _ {s : List ℕ} {at left e : ℕ} (h : at < length s) (l : letter (getD s at 0) ≡ true) (n : Name s at e) (m : (left ≡ 0 → ⊥)) where
-  named : (depth lt : ℕ) → depth + left ≡ 13 → (x : State × (Element → State))
-      → from s (angle depth lt (x .0) (x .1)) at ≡ from s (naming depth lt (take (e - at) (drop at s)) (at + 32 - e) (x .1)) e
-  named depth lt d x = angle-names s depth lt (x .0) (x .1) at h l (omega arith) ∙ n .spelt .names depth lt (x .1)
-
-  pub name-short : e ≡ length s → ElementAt s at left (StopsAt e)
-  unfolding ended
-  name-short z = record { reads = λ depth lt d. stops (λ x. named depth lt d x ∙ from-short s _ e (omega arith) refl) }
-
-  pub name-long : e < length s → letter-or-digit (getD s e 0) ≡ true → ElementAt s at left (StopsAt e)
-  name-long i f =
-      let full : at + 32 - e ≡ 0 = omega (arith, n .other i f) in
-      record { reads = λ depth lt d. stops (λ x. named depth lt d x ∙ stuck depth lt (x .1) full) }
+  pub content-read : ContentRead s before tree start i left (held.To close next known)
+  content-read = go (eqb at start) refl
     where
-      stuck : (depth lt : ℕ) (k : Element → State) → at + 32 - e ≡ 0
-          → from s (naming depth lt (take (e - at) (drop at s)) (at + 32 - e) k) e ≡ stops-at e
-      stuck depth lt k z = rw z (from-stuck s _ e i (name-full depth lt _ k e (getD s e 0) f))
+      go : (z : Bool) → eqb at start ≡ z → ContentRead s before tree start i left (held.To close next known)
+      go true z = text-content (eqb-true at start z)
+      go false z = children-content (eqb-false at start z)
 
-  module _ {r : Scan} (t : (depth lt room : ℕ) → Opened s e (take (e - at) (drop at s)) depth (naming depth lt (take (e - at) (drop at s)) room) r) where
-    tagged : (depth lt : ℕ) → depth + left ≡ 13
-        → Scanned s at (λ (x : State × (Element → State)). angle depth lt (x .0) (x .1))
-        (λ x (o : Tag (take (e - at) (drop at s)) depth). blank (o .tag) [] (x .1)) r
-    tagged depth lt d = let i = n .spelt .rises in first (omega arith) (named depth lt d) (via (λ x. x .1) (t depth lt (at + 32 - e)))
+-- the same, as the code answers it
+pub content-ends : {s before tree : List ℕ} {left start i at next p : ℕ} {c : Bool} {r : Held} → Passed s before tree left start i at next → White s at p
+    → ChildAt s p c → c ≡ false → HeldAt s start at p next r → ContentRead s before tree start i left r
+unfolding HeldAt
+content-ends {r = held.To close n known} b w x z (e, h) = rw e (content-read b w x z h)
+content-ends {r = held.StopsAt n} b w x z h = absurd h
 
-    pub tag-stops : {z : ℕ} → r ≡ StopsAt z → ElementAt s at left (StopsAt z)
-    tag-stops f = record { reads = λ depth lt d. halts (tagged depth lt d) f }
+-- one more child
+module _ {s before tree tree′ : List ℕ} {left start i at next p : ℕ} {c : Bool} {r : Read} (b : Passed s before tree left start i at next) (w : White s at p)
+    (h : ChildAt s p c) (e : c ≡ true) (x : ElementRead s tree tree′ p next left r) where
+  -- the machine from the beginning up to a child, which is one more behind those passed
+  record Behind (o : Open) : Type 0 where
+    before-these : Elements → Elements
+    numbered : Roomy s tree → (after : List ℕ) → Agree tree after i next → (ts : Elements) (n : ℕ) → AllNumbered s after ts next n
+        → AllNumbered s after (before-these ts) i n
+    reads : Scanned s start (blank o []) (λ k (a : Placed s tree′ next (read-next r)). after-child o (λ ts. before-these (a .element ∷ᵉ ts)) k) (read-scan r)
 
-    pub element-read : {p left′ : ℕ} {y : Scan} → r ≡ To p → left ≡ suc left′ → ContentOf s (take (e - at) (drop at s)) p left′ y → ElementAt s at left y
-    element-read f z c = record {
-      reads = λ depth lt d.
-          chain (tagged depth lt d) f
-          (λ o. let o-depth = o .its-depth in via (λ x. x .1) (c .reads (o .tag) (o .its-name) (omega arith)));
+  begun : (o : Open) → o .depth + left ≡ 12 → Behind o
+  begun o d = ⊎-elim at-first then (b .passes)
+    where
+      at-first : (at ≡ start) × (next ≡ i) → Behind o
+      at-first (z, y) =
+          let (w′, f) = (rw z at w) .through .blanks o [] in
+          let l = b .rises in
+          let l′ = w .through .rises in
+          record {
+            before-these = λ ts. ts;
+            numbered = λ _ after _ ts n m. subst (λ j. AllNumbered s after ts j n) y m;
+            reads =
+                first (omega (arith, l, l′)) (λ k. f k ∙ blank-child s o k p w′ (h .there e))
+                (via (λ k. (ending o (holding-text (closed o p) w′) k, λ t. after-child o (λ ts. t ∷ᵉ ts) k)) (x .reads (suc (o .depth)) (omega (arith, d))));
+          }
+
+      then : (i < next) × ((o : Open) → o .depth + left ≡ 12 → SoFar s tree o start i at next) → Behind o
+      then (j, g) =
+          let f = g o d in
+          let l = b .rises in
+          let l′ = w .through .rises in
+          record {
+            before-these = f .before-these;
+            numbered = f .numbered;
+            reads =
+                first (omega (arith, l, l′))
+                (λ k. f .runs k ∙ (w .through .stays (after-child o (f .before-these) k) (among-stays o (f .before-these) k) ∙ among-child s o k p (f .before-these) (h .there e)))
+                (via (λ k. (ending o (holding-elements (closed o p) (f .before-these []ᵉ)) k, λ t. after-child o (λ ts. f .before-these (t ∷ᵉ ts)) k))
+                (x .reads (suc (o .depth)) (omega (arith, d))));
+          }
+
+  pub content-stops : {n : ℕ} → r ≡ read.StopsAt n → ContentRead s before tree′ start i left (held.StopsAt n)
+  unfolding held-scan read-scan
+  content-stops {n} z = record {
+    kept = kept-on (b .kept) (x .kept) (b .counted);
+    reads = λ o d. halts (begun o d .reads) (ap read-scan z);
+    goes = λ c′ n′ k′ f. absurd (no-held f);
+  }
+
+  pub one-passed : left ≤ 12 → {q n : ℕ} → r ≡ read.To q n → Passed s before tree′ left start i q n
+  unfolding read-scan read-next
+  one-passed l {q} {n} z =
+      let (j, en) = x .goes q n z in
+      let g = reached (x .reads (13 - left) (omega (arith, l))) (ap read-scan z) in
+      let l₁ = g .rises in
+      let l₃ = b .rises in
+      let l₄ = w .through .rises in
+      let cn = b .counted in
+      let eb = b .enough in
+      record {
+        kept = kept-on (b .kept) (x .kept) (b .counted);
+        rises = omega (arith, l₁, l₃, l₄);
+        within = g .within;
+        counted = omega (arith, j, cn);
+        enough = omega (arith, en, eb, l₄);
+        passes = inr (omega (arith, j, cn), λ o d. behind-it o d);
+      }
+    where
+      behind-it : (o : Open) → o .depth + left ≡ 12 → SoFar s tree′ o start i q n
+      behind-it o d =
+          let f = begun o d in
+          let y = reached (f .reads) (ap read-scan z) in
+          let cn = b .counted in
+          let (j, _) = x .goes q n z in
+          record {
+            before-these = λ ts. f .before-these (y .got .element ∷ᵉ ts);
+            runs = y .runs;
+            numbered = λ roomy after a ts m u.
+                let rs : Roomy s tree = record { short = roomy .short; long = let k = x .kept .length-kept in let k′ = roomy .long in omega (arith, k, k′) } in
+                let mine : Numbered s tree′ (y .got .element) next n = subst (λ v. Numbered s tree′ (y .got .element) next v) (ap read-next z) (y .got .numbered roomy) in
+                f .numbered rs after (agree-on (kept-agree (x .kept)) a (omega (arith, j))) (y .got .element ∷ᵉ ts) m
+                (more-numbered (numbered-stays mine (narrow a (omega (arith, cn)) (omega arith))) u);
+          }
+
+-- Every byte between two offsets is of a kind.
+every-from : (q : ℕ → Bool) (s : List ℕ) (m a : ℕ) → a + m ≤ length s → ((k : ℕ) → a ≤ k → k < a + m → q (getD s k 0) ≡ true) → Every q (take m (drop a s))
+every-from q s zero a l f = every-none
+every-from q s (suc m) a l f =
+    rw (drop-cons s a 0 (omega (arith, l)))
+    (every-more (f a (omega arith) (omega arith)) (every-from q s m (suc a) (omega (arith, l)) (λ k u v. f k (omega (arith, u)) (omega (arith, v)))))
+
+every-between : (q : ℕ → Bool) (s : List ℕ) (a b : ℕ) → a ≤ b → b ≤ length s → ((k : ℕ) → a ≤ k → k < b → q (getD s k 0) ≡ true) → Every q (between a b s)
+every-between q s a b l h f = every-from q s (b - a) a (omega (arith, l, h)) (λ k u v. f k u (omega (arith, v, l)))
+
+along-then : {s : List ℕ} {a b c : ℕ} → Along s a b → Along s b c → Along s a c
+along-then x y = record {
+  rises = let l = x .rises in let m = y .rises in omega (arith, l, m);
+  within = y .within;
+  texts = λ o w. let (w₁, f) = x .texts o w in let (w₂, g) = y .texts o w₁ in (w₂, λ k. f k ∙ g k);
+}
+
+unknown : {s : List ℕ} {start close : ℕ} → Known s start close 0
+unknown = record { small = omega arith; white-known = λ e. absurd (omega (arith, e)); values-known = λ e. absurd (omega (arith, e)) }
+
+-- what stands behind white space, as `ending` finds it
+module _ (s : List ℕ) (start at p : ℕ) where
+  pub behind-children : (at ≡ start → ⊥) → HeldTo s start at p p 0
+  behind-children m = record {
+    behind-children = λ _. refl;
+    text = λ z. absurd (m z);
+    is-known = λ _ _ z. absurd (m z);
+    nothing-known = λ _. refl;
+  }
+
+  module _ (v close : ℕ) (x : Values s p v) (y : Text s v close) (z : at ≡ start) where
+    ends-with : (known : ℕ) → (((k : ℕ) → start ≤ k → k < p → white (getD s k 0) ≡ true) → start ≤ p → Known s start close known) → HeldTo s start at p close known
+    ends-with known f = record {
+      behind-children = λ m. absurd (m z);
+      text = λ _. (along-then (x .along) (y .along), y .other);
+      is-known = λ g l _. f g l;
+      nothing-known = λ m. absurd (m z);
     }
+
+    pub white-alone : close ≡ p → HeldTo s start at p close 1
+    white-alone e = ends-with 1 (λ g l. record {
+      small = omega arith;
+      white-known = λ _. let h = y .along .within in every-between white s start close (omega (arith, l, e)) h (λ k u w. g k u (omega (arith, w, e)));
+      values-known = λ d. absurd (omega (arith, d));
+    })
+
+    pub any-text : HeldTo s start at p close 0
+    any-text = ends-with 0 (λ _ _. unknown)
+
+    pub values-alone : p ≡ start → close ≡ v → HeldTo s start at p close 3
+    values-alone a b = ends-with 3 (λ g l. record {
+      small = omega arith;
+      white-known = λ d. absurd (omega (arith, d));
+      values-known = λ _.
+          let h = y .along .within in
+          let i = x .along .rises in
+          every-between value-character s start close (omega (arith, i, a, b)) h (λ k u w. x .in-set k (omega (arith, u, a)) (omega (arith, w, b)));
+    })

@@ -1,5 +1,6 @@
--- The contract of `form_of` determines its answer: a theorem that crates above may cite.
+-- Laws that belong to no one function, and what the contract of `form_of` determines.
+pub mod Numbering
+pub mod ContentLaws
+pub mod ElementLaws
+pub mod RootLaws
 pub mod Agreement
--- laws by which the functions of the code are proved
-mod ContentLaws
-mod RootLaws

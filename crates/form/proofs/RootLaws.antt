@@ -1,26 +1,34 @@
 -- How the machine runs on over the whole message: the declaration, the root, the white space around it, and what that says of the form.
-use Prim.Native.Nat.{ℕ, _≤_, _<_}
+use Prim.Native.Nat.{ℕ, _+_, _≤_, _<_}
 use mathlib.Core.List.{List, []}
 use mathlib.Core.Option.{none, some}
 use mathlib.Core.Bool.{Bool, true, false}
-use mathlib.Core.Path.{_≡_, refl, _∙_}
+use mathlib.Core.Path.{_≡_, refl, sym, ap, subst, _∙_}
 use native.Mathlib.Decide.{decLe}
 use native.Mathlib.Omega.{arith}
 use lib.ListN.{length, getD, drop, drop-of-length-le}
 use lib.Dec.{eqb}
 use borrow.Author.Tests.{eqb-true, eqb-false, ne-eqb}
-use Rattle.paper.specs.Bytes.{bytes, is, one-of, white}
-use Rattle.paper.specs.Form.{Element, root-tag, declaration}
-use Rattle.paper.specs.Computed.Reading.{opening, opened, before, after, want, in-root, step, ended, run, read, root-is}
+use Rattle.paper.specs.Bytes.{bytes, is, one-of, white, same}
+use Rattle.paper.specs.Form.{Element, IsMessage, root-tag, end-tag, declaration}
+use Rattle.paper.specs.Rows.{leaf, group, group-under, rows, head-of}
+use Rattle.paper.specs.Computed.Reading.{opening, opened, before, after, want, blank, closed, in-root, step, ended, run, read, root-is}
 use Rattle.form.specs.Promise.{FormPromise}
-use Rattle.form_scans.specs.Scans.{from, Scanned, Word, White, ContentOf, Prologue, RootAt}
+use Rattle.form_names.specs.Names.{number-in, name-number}
+use Rattle.form_scans.specs.Scans.{from, Scanned, Word, Tag, White}
+use Rattle.form.specs.Reads.{Roomy, PutDown, Whole, held-scan, held-next, close-of, ContentRead, Prologue, Root, InRoot, RootRead}
+use Rattle.form.specs.declared.Held.the-variants as held
 use Rattle.form.specs.declared.Form.the-variants.{OfTheForm, RefusedAt}
 use Rattle.form_scans.specs.declared.Scan.{Scan}
 use Rattle.form_scans.specs.declared.Scan.the-variants.{To, StopsAt}
-use Rattle.paper_grammar.proofs.Complete.{opened-by, after-stays, before-stays}
-use Rattle.paper_grammar.proofs.Decides.{stop-is-refusal, root-is-form}
-use Rattle.form_scans.proofs.Laws.{from-stuck, want-step, want-stuck, reached, halted, halts, first, via, chain}
+use Rattle.paper_grammar.proofs.Complete.{after-stays, before-stays}
+use Rattle.paper_grammar.proofs.Decides.{stop-is-refusal}
+use Rattle.paper_grammar.proofs.Sound.{sound}
+use Rattle.form_scans.proofs.Laws.{from-stuck, want-step, want-stuck, reached, halted, halts, first, via, giving, chain}
 use Rattle.form.proofs.ContentLaws.{alike-short, alike-stuck, alike-next}
+use Rattle.form.proofs.ElementLaws.{finished}
+use Rattle.form.proofs.Numbering.{put-kept, put-agrees, put-there, laid}
+use Rattle.paper_grammar.proofs.InPlace.{in-place}
 
 -- the declaration, which begins with `<?`
 opening-angle : (b : ℕ) → b ≡ 60 → step opening 0 b ≡ some opened
@@ -110,22 +118,82 @@ root-begins s p w = go (decLe (length s) p)
     go (yes l) = alike-short s before _ p l refl refl
     go (no l) = let h : p < length s = omega arith in at-byte h (eqb (getD s p 0) 60) refl
 
+root-number : 1 ≡ name-number (bytes "Document")
+unfolding name-number number-in rows group same bytes leaf group-under
+root-number = refl
+
+-- the root's start tag, and what follows it
 module _ {s : List ℕ} {at : ℕ} {r : Scan} (w : at < length s → white (getD s at 0) ≡ false) (h : Word s at root-tag r) where
   tag-read : Scanned {K = Unit {0}} {A = Unit {0}} s at (λ _. before) (λ _ _. in-root at) r
-  tag-read = first (omega arith) (λ _. root-begins s at w) (via (λ _. in-root at) h)
+  tag-read = first (omega arith) (λ _. root-begins s at w) (via (λ _. in-root at) (h .reads))
 
-  pub root-stops : {n : ℕ} → r ≡ StopsAt n → RootAt s at before (StopsAt n)
+  pub root-stops : {tree : List ℕ} {n : ℕ} → r ≡ StopsAt n → RootRead s tree at before (StopsAt n)
   root-stops e = halts tag-read e
 
-  pub root-read : {p : ℕ} {y : Scan} → r ≡ To p → ContentOf s (bytes "Document") p 11 y → RootAt s at before y
-  unfolding in-root
-  root-read e c = chain tag-read e (λ _. via (λ _. after) (c .reads (opened-by 1 at root-tag (bytes "Document") []) refl (omega arith)))
+  pub root-length : {p : ℕ} → r ≡ To p → p ≡ at + 65
+  unfolding root-tag bytes
+  root-length {p} e = h .goes p e
+
+  pub root-read : {tree : List ℕ} {p : ℕ} {y : Scan} → r ≡ To p → InRoot s tree at p y → RootRead s tree at before y
+  unfolding in-root root-tag bytes
+  root-read {p} e c =
+      chain tag-read e
+      (λ _. via (λ _. after)
+      (c (record {
+        tag = record { name = bytes "Document"; currency = []; at = at; start = at + length root-tag; depth = 1 };
+        its-name = refl;
+        its-depth = refl;
+        its-at = refl;
+        its-start = sym (h .goes p e);
+        long = let k = h .goes p e in omega (arith, k);
+      })))
+
+-- what the root holds, its end tag, and its numbers
+module _ (s before tree : List ℕ) (at start : ℕ) where
+  pub in-root-stops : {n : ℕ} → ContentRead s before tree start 1 11 (held.StopsAt n) → InRoot s tree at start (StopsAt n)
+  unfolding held-scan
+  in-root-stops c o = halts (c .reads (o .tag) (let j = o .its-depth in omega (arith, j))) refl
+
+  module _ (close next known : ℕ) (c : ContentRead s before tree start 1 11 (held.To close next known)) {r : Scan} (w : Word s close (end-tag (bytes "Document")) r) where
+    root-closing : (o : Tag (bytes "Document") 1 at start) → Scanned s start (blank (o .tag) []) (λ k (a : Whole s tree (o .tag) close 1 next). k (a .element)) r
+    unfolding held-scan held-next close-of
+    root-closing o =
+        let w′ : Word s close (end-tag (o .tag .name)) r = subst (λ n. Word s close (end-tag n) r) (sym (o .its-name)) w in
+        chain (c .reads (o .tag) (let j = o .its-depth in omega (arith, j))) refl (λ a. giving (λ _. a) (λ k _. refl) (via (λ k. k (a .element)) (w′ .reads)))
+
+    pub root-end-stops : {n : ℕ} → r ≡ StopsAt n → InRoot s tree at start (StopsAt n)
+    root-end-stops f o = halts (root-closing o) f
+
+    module _ (after : List ℕ) (q : ℕ) (f : r ≡ To q) (p : PutDown tree after 0 at 1 start close next known) (sl : start ≤ length s) (st : start ≡ at + 65) where
+      root-placed : (o : Tag (bytes "Document") 1 at start) → Whole s tree (o .tag) close 1 next → Root s after
+      unfolding closed
+      root-placed o a = record {
+        element = a .element;
+        next = next;
+        numbered = λ roomy.
+            let k = put-kept p .length-kept in
+            let rl = roomy .long in
+            let sh = roomy .short in
+            let (g₁, g₂, g₃, g₄, g₅) = c .goes close next known refl in
+            let rs : Roomy s tree = record { short = sh; long = omega (arith, k, rl) } in
+            finished 0 next (a .element) (put-agrees p)
+            (put-there p s (head-of (a .element)) (omega (arith, k, rl)) (omega (arith, g₃, g₄, sh)) (omega (arith, g₁)) (omega (arith, sl, sh, st)) (omega (arith, sl, sh))
+            (omega (arith, g₃, sh)) (omega arith) (sym (ap (λ h. h .at) (a .its-head) ∙ o .its-at))
+            (root-number ∙ ap name-number (sym (ap (λ h. h .name) (a .its-head) ∙ o .its-name))) (sym (ap (λ h. h .start) (a .its-head) ∙ o .its-start))
+            (sym (ap (λ h. h .close) (a .its-head))) g₅)
+            (a .holds rs);
+      }
+
+      pub in-root-read : InRoot s after at start (To q)
+      unfolding root-placed
+      in-root-read o =
+          subst (λ z. Scanned s start (blank (o .tag) []) (λ k (a : Root s after). k (a .element)) z) f (giving (root-placed o) (λ k _. refl) (root-closing o))
 
 -- the message up to behind the root
-pub prologue-stops : {s : List ℕ} {r : Scan} {n : ℕ} → Prologue s r → r ≡ StopsAt n → RootAt s 0 opening (StopsAt n)
+pub prologue-stops : {s tree : List ℕ} {r : Scan} {n : ℕ} → Prologue s r → r ≡ StopsAt n → RootRead s tree 0 opening (StopsAt n)
 prologue-stops h e = halts h e
 
-pub whole-root : {s : List ℕ} {p m : ℕ} {r y : Scan} → Prologue s r → r ≡ To p → White s p m → RootAt s m before y → RootAt s 0 opening y
+pub whole-root : {s tree : List ℕ} {p m : ℕ} {r y : Scan} → Prologue s r → r ≡ To p → White s p m → RootRead s tree m before y → RootRead s tree 0 opening y
 whole-root h e w g = chain h e (λ _. first (w .through .rises) (λ _. w .through .stays before before-stays) g)
 
 after-stuck : (t : Element) (at b : ℕ) → white b ≡ false → step (after t) at b ≡ none
@@ -133,25 +201,33 @@ unfolding step
 after-stuck t at b e = rw e
 
 -- what the answer says
-pub refused : {s : List ℕ} {r : Scan} {n : ℕ} → RootAt s 0 opening r → r ≡ StopsAt n → FormPromise s (RefusedAt n)
+pub refused : {s tree : List ℕ} {r : Scan} {n : ℕ} → RootRead s tree 0 opening r → r ≡ StopsAt n → FormPromise s tree (RefusedAt n)
 unfolding FormPromise read from
-refused {s} {n} h e = stop-is-refusal s n (halted h e tt)
+refused {s} {n = n} h e = stop-is-refusal s n (halted h e tt)
 
-module _ {s : List ℕ} {r : Scan} {p e : ℕ} (h : RootAt s 0 opening r) (z : r ≡ To p) (w : White s p e) where
-  behind-root : (t : Element) × (from s opening 0 ≡ from s (after t) e)
-  behind-root = let g = reached h z in (g .got, g .runs tt ∙ w .through .stays (after (g .got)) (after-stays (g .got)))
+ended-well : (s : List ℕ) (e : ℕ) → e ≡ length s → (t : Element) → from s (after t) e ≡ root-is t
+unfolding from run ended
+ended-well s e l t = rw (drop-of-length-le s {i = e} (omega arith))
 
-  pub accepted : e ≡ length s → FormPromise s OfTheForm
+module _ {s tree : List ℕ} {r : Scan} {p e : ℕ} (h : RootRead s tree 0 opening r) (z : r ≡ To p) (w : White s p e) where
+  behind-root : (a : Root s tree) × (from s opening 0 ≡ from s (after (a .element)) e)
+  behind-root = let g = reached h z in (g .got, g .runs tt ∙ w .through .stays (after (g .got .element)) (after-stays (g .got .element)))
+
+  pub accepted : e ≡ length s → 28200 ≤ length tree → FormPromise s tree OfTheForm
   unfolding FormPromise read from
-  accepted l = let (t, f) = behind-root in root-is-form s t (f ∙ ended-well t)
-    where
-      ended-well : (t : Element) → from s (after t) e ≡ root-is t
-      ended-well t = unfold from run ended in rw (drop-of-length-le s {i = e} (omega arith))
+  accepted l long =
+      let (a, f) = behind-root in
+      let m : IsMessage s (a .element) = sound s (a .element) (f ∙ ended-well s e l (a .element)) in
+      record {
+        root = a .element;
+        message = m;
+        laid = λ short. record { next = a .next; laid = laid (a .numbered (record { short = short; long = long })) (in-place m) };
+      }
 
-  pub trailing : (e ≡ length s → ⊥) → FormPromise s (RefusedAt e)
+  pub trailing : (e ≡ length s → ⊥) → FormPromise s tree (RefusedAt e)
   unfolding FormPromise read from
   trailing l =
-      let (t, f) = behind-root in
+      let (a, f) = behind-root in
       let k = w .through .within in
       let i : e < length s = omega arith in
-      stop-is-refusal s e (f ∙ from-stuck s (after t) e i (after-stuck t e (getD s e 0) (w .other i)))
+      stop-is-refusal s e (f ∙ from-stuck s (after (a .element)) e i (after-stuck (a .element) e (getD s e 0) (w .other i)))

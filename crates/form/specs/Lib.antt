@@ -1,2 +1,3 @@
 -- What the contracts of `form` cite.
 pub mod Promise
+pub mod Reads

@@ -1,66 +1,57 @@
-// The classes of bytes that the written form knows.
+// The ranks of bytes (specs/Ranks.antt), so ordered that most classes of bytes are those from a rank on: 0 no text, 1 text, 2 tab and line ends, 3 space,
+// 4 punctuation of the characters of values, 5 digit, 6 small letter, 7 capital.
 ghost use mathlib.Core.Path.{_≡_};
-ghost use Rattle.paper.specs.Bytes.{white, text-byte, capital, letter, letter-or-digit};
+ghost use Rattle.paper.specs.Bytes.{white};
+ghost use Rattle.form_ranks.specs.Ranks.{rank, RanksAre};
 
-pub fn is_white(b: u8) -> bool
-    ensures { λ r. ⌜ r ≡ white b ⌝ }
+// The rank of each byte. A const table is made anew wherever it is used: make it once, and lend it.
+pub type Ranks = [u8; 256];
+
+// Sixteen bytes a line.
+const LINES: [[u8; 16]; 16] = [
+    [0, 0, 0, 0, 0, 0, 0, 0, 0, 2, 2, 0, 0, 2, 0, 0],
+    [0, 0, 0, 0, 0, 0, 0, 0, 0, 0, 0, 0, 0, 0, 0, 0],
+    [3, 1, 1, 1, 1, 1, 0, 4, 4, 4, 1, 4, 4, 4, 4, 4],
+    [5, 5, 5, 5, 5, 5, 5, 5, 5, 5, 4, 1, 0, 1, 1, 4],
+    [1, 7, 7, 7, 7, 7, 7, 7, 7, 7, 7, 7, 7, 7, 7, 7],
+    [7, 7, 7, 7, 7, 7, 7, 7, 7, 7, 7, 1, 1, 1, 1, 1],
+    [1, 6, 6, 6, 6, 6, 6, 6, 6, 6, 6, 6, 6, 6, 6, 6],
+    [6, 6, 6, 6, 6, 6, 6, 6, 6, 6, 6, 1, 1, 1, 1, 1],
+    [1, 1, 1, 1, 1, 1, 1, 1, 1, 1, 1, 1, 1, 1, 1, 1],
+    [1, 1, 1, 1, 1, 1, 1, 1, 1, 1, 1, 1, 1, 1, 1, 1],
+    [1, 1, 1, 1, 1, 1, 1, 1, 1, 1, 1, 1, 1, 1, 1, 1],
+    [1, 1, 1, 1, 1, 1, 1, 1, 1, 1, 1, 1, 1, 1, 1, 1],
+    [1, 1, 1, 1, 1, 1, 1, 1, 1, 1, 1, 1, 1, 1, 1, 1],
+    [1, 1, 1, 1, 1, 1, 1, 1, 1, 1, 1, 1, 1, 1, 1, 1],
+    [1, 1, 1, 1, 1, 1, 1, 1, 1, 1, 1, 1, 1, 1, 1, 1],
+    [1, 1, 1, 1, 1, 1, 1, 1, 1, 1, 1, 1, 1, 1, 1, 1],
+];
+
+pub fn ranks() -> Ranks
+    ensures { λ r. ⌜ RanksAre r ⌝ }
 {
-    if b == b' ' {
-        return true;
+    let lines = LINES;
+    let mut all = [0u8; 256];
+    let mut b = 0;
+    while b < 256 {
+        all[b] = lines[b / 16][b % 16];
+        b += 1;
     }
-    if b == b'\t' {
-        return true;
-    }
-    if b == b'\n' {
-        return true;
-    }
-    b == b'\r'
+    all
 }
 
-pub fn is_text(b: u8) -> bool
-    ensures { λ r. ⌜ r ≡ text-byte b ⌝ }
+pub fn rank(ranks: &Ranks, b: u8) -> u8
+    ensures { λ r. ⌜ (RanksAre (now (ranks .entry)) → r ≡ rank b) ⌝ }
 {
-    if b == b'<' {
-        return false;
-    }
-    if b == b'&' {
-        return false;
-    }
-    if b >= b' ' {
-        return true;
-    }
-    is_white(b)
+    ranks[b as usize]
 }
 
-pub fn is_capital(b: u8) -> bool
-    ensures { λ r. ⌜ r ≡ capital b ⌝ }
+pub fn is_white(ranks: &Ranks, b: u8) -> bool
+    ensures { λ r. ⌜ (RanksAre (now (ranks .entry)) → r ≡ white b) ⌝ }
 {
-    if b < b'A' {
+    let r = rank(ranks, b);
+    if r < 2 {
         return false;
     }
-    b <= b'Z'
-}
-
-pub fn is_letter(b: u8) -> bool
-    ensures { λ r. ⌜ r ≡ letter b ⌝ }
-{
-    if is_capital(b) {
-        return true;
-    }
-    if b < b'a' {
-        return false;
-    }
-    b <= b'z'
-}
-
-pub fn is_letter_or_digit(b: u8) -> bool
-    ensures { λ r. ⌜ r ≡ letter-or-digit b ⌝ }
-{
-    if is_letter(b) {
-        return true;
-    }
-    if b < b'0' {
-        return false;
-    }
-    b <= b'9'
+    r <= 3
 }

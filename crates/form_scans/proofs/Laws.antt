@@ -1,22 +1,25 @@
 -- How the machine runs on over a message in place: what one byte, the end of the message, and each loop of the code come to.
-use Prim.Native.Nat.{ℕ, suc, _+_, _-_, _≤_, _<_}
+use Prim.Native.Nat.{ℕ, zero, suc, _+_, _-_, _≤_, _<_}
 use mathlib.Core.List.{List, [], _∷_, _++_}
 use mathlib.Core.Option.{none, some}
-use mathlib.Core.Bool.{Bool, true, false}
-use mathlib.Core.Path.{_≡_, refl, sym, ap, _∙_}
+use mathlib.Core.Bool.{Bool, true, false, false≢true}
+use mathlib.Core.Path.{_≡_, refl, sym, ap, subst, _∙_}
 use native.Mathlib.Numerals.{add-one}
 use native.Mathlib.Omega.{arith}
-use lib.ListN.{length, getD, take, drop, length-drop, drop-of-length-le}
+use native.Mathlib.Decide.{decLe}
+use lib.ListN.{length, getD, take, drop, length-append, length-drop, drop-of-length-le}
 use lib.Seq.{drop-cons, take-suc, getD-drop}
 use lib.Dec.{eqb}
-use borrow.Author.Tests.{eq-eqb, ne-eqb, eqb-true, eqb-false}
-use Rattle.paper.specs.Bytes.{white, text-byte, letter-or-digit}
+use borrow.Author.Tests.{eq-eqb, ne-eqb, eqb-true, eqb-false, le-leb, lt-leb}
+use Rattle.paper.specs.Bytes.{white, text-byte, value-character, letter-or-digit}
 use Rattle.paper.specs.Form.{Element}
 use Rattle.paper.specs.Computed.Reading.{Open, State, naming, blank, in-text, want, step, ended, run, stops-at}
 use Rattle.paper_grammar.specs.Stays.{Stays}
-use Rattle.form_scans.specs.Scans.{from, Scanned, to, stops, Through, Along, Spelt}
+use Rattle.form_scans.specs.Scans.{from, Scanned, to, stops, Word, end-of, Through, FourWhite, Run, Along, Spelt, Name}
 use Rattle.form_scans.specs.declared.Scan.{Scan}
 use Rattle.form_scans.specs.declared.Scan.the-variants.{To, StopsAt}
+use Rattle.form_ranks.specs.Ranks.{rank}
+use Rattle.form_ranks.proofs.Classes.{text-from, value-from, name-from}
 use Rattle.paper_grammar.proofs.Leads.{run-next, run-stuck}
 
 pub from-next : (s : List ℕ) (q : State) (at : ℕ) {r : State} → at < length s → step q at (getD s at 0) ≡ some r → from s q at ≡ from s r (at + 1)
@@ -30,6 +33,11 @@ from-stuck s q at h e = rw (drop-cons s at 0 h) (run-stuck q at (getD s at 0) e 
 pub from-short : (s : List ℕ) (q : State) (at : ℕ) → length s ≤ at → ended q ≡ none → from s q at ≡ stops-at at
 unfolding from run
 from-short s q at h e = rw (drop-of-length-le s h, e, run)
+
+-- whether a scan stopped
+unfoldable stopped : Scan → ℕ
+stopped (To p) = 0
+stopped (StopsAt n) = 1
 
 -- What is known of a scan that went on, and of one that stopped.
 pub record Reached {K A : Type 0} (s : List ℕ) (at : ℕ) (ahead : K → State) (behind : K → A → State) (p : ℕ) : Type 0 where
@@ -71,6 +79,12 @@ module _ {K A : Type 0} {s : List ℕ} {at : ℕ} {ahead : K → State} {behind 
   giving f g (to {p} l h a e) = to l h (f a) (λ k. e k ∙ ap (λ q. from s q p) (g k a))
   giving f g (stops e) = stops e
 
+  -- the same with the offset that it goes to
+  pub giving-at : {B : Type 0} {other : K → B → State} {r : Scan} (f : (p : ℕ) → r ≡ To p → A → B)
+      → ((k : K) (p : ℕ) (e : r ≡ To p) (a : A) → behind k a ≡ other k (f p e a)) → Scanned s at ahead behind r → Scanned s at ahead other r
+  giving-at f g (to {p} l h a e) = to l h (f p refl a) (λ k. e k ∙ ap (λ q. from s q p) (g k p refl a))
+  giving-at f g (stops e) = stops e
+
   -- what is to come may be told more closely
   pub via : {L : Type 0} (f : L → K) {r : Scan} → Scanned s at ahead behind r → Scanned s at (λ l. ahead (f l)) (λ l. behind (f l)) r
   via f (to l h a e) = to l h a (λ k. e (f k))
@@ -107,6 +121,19 @@ module _ (s w : List ℕ) (i p : ℕ) (q : State) where
   unfolding want
   word-end h = rw (drop-of-length-le w h)
 
+-- what was read of fixed bytes
+pub no-to : {n p : ℕ} → StopsAt n ≡ To p → ⊥
+unfolding stopped
+no-to {n} {p} e = let z : _≡_ {A = ℕ} 0 1 = ap stopped (sym e) in omega (arith, z)
+
+module _ {s w : List ℕ} {at : ℕ} where
+  pub word-to : {p : ℕ} → at ≤ p → p ≤ length s → p ≡ at + length w → ((q : State) → from s (want w q) at ≡ from s q p) → Word s at w (To p)
+  unfolding end-of
+  word-to {p} l h g e = record { reads = to l h tt e; goes = λ m z. sym (ap end-of z) ∙ g }
+
+  pub word-stops : {n : ℕ} → ((q : State) → from s (want w q) at ≡ stops-at n) → Word s at w (StopsAt n)
+  word-stops e = record { reads = stops e; goes = λ m z. absurd (no-to z) }
+
 -- bytes one after the other
 want-append-run : (v w : List ℕ) (q : State) (at : ℕ) (s : List ℕ) → run (want (v ++ w) q) at s ≡ run (want v (want w q)) at s
 unfolding want run ended
@@ -123,9 +150,38 @@ pub want-append : (s v w : List ℕ) (at : ℕ) (q : State) → from s (want (v 
 unfolding from
 want-append s v w at q = want-append-run v w q at (drop at s)
 
+-- fixed bytes, and then others
+module _ {s : List ℕ} {at : ℕ} (v w : List ℕ) where
+  pub word-halts : {r : Scan} {n : ℕ} → Word s at v r → r ≡ StopsAt n → Word s at (v ++ w) (StopsAt n)
+  word-halts h e = word-stops (λ q. want-append s v w at q ∙ halted (h .reads) e (want w q))
+
+  pub word-then : {r z : Scan} {p : ℕ} → Word s at v r → r ≡ To p → Word s p w z → Word s at (v ++ w) z
+  word-then {r} {z} {p} h e g =
+      let y = reached (h .reads) e in
+      let m = h .goes p e in
+      record {
+        reads = first (y .rises) (λ q. want-append s v w at q ∙ y .runs (want w q)) (g .reads);
+        goes = λ x i. let j = g .goes x i in omega (arith, j, m, length-append v w);
+      }
+
+-- what holds of every byte from an offset on goes one byte further
+pub one-further : (P : ℕ → Type 0) (s : List ℕ) (at i : ℕ) → ((k : ℕ) → at ≤ k → k < i → P (getD s k 0)) → P (getD s i 0)
+    → (k : ℕ) → at ≤ k → k < i + 1 → P (getD s k 0)
+one-further P s at i f e k l u = go (decLe i k)
+  where
+    go : Dec (i ≤ k) → P (getD s k 0)
+    go (yes m) = let z : i ≡ k = omega (arith, m, u) in subst (λ z. P (getD s z 0)) z e
+    go (no m) = f k l (omega (arith, m))
+
 -- white space
 pub through-start : (s : List ℕ) (at : ℕ) → at ≤ length s → Through s at at
-through-start s at h = record { rises = omega arith; within = h; stays = λ q _. refl; blanks = λ o w. (w, λ k. refl) }
+through-start s at h = record {
+  rises = omega arith;
+  within = h;
+  stays = λ q _. refl;
+  blanks = λ o w. (w, λ k. refl);
+  all-white = λ k l u. absurd (omega (arith, l, u));
+}
 
 blank-step : (o : Open) (w : List ℕ) (k : Element → State) (at b : ℕ) → white b ≡ true → step (blank o w k) at b ≡ some (blank o (w ++ (b ∷ [])) k)
 unfolding step
@@ -138,7 +194,18 @@ through-next {s} {at} i t h e = record {
   within = omega arith;
   stays = λ q f. t .stays q f ∙ from-next s q i h (f i (getD s i 0) e);
   blanks = λ o w. let (w′, f) = t .blanks o w in (w′ ++ (getD s i 0 ∷ []), λ k. f k ∙ from-next s _ i h (blank-step o w′ k i (getD s i 0) e));
+  all-white = λ k l u. one-further (λ z. white z ≡ true) s at i (t .all-white) e k l u;
 }
+
+pub through-four : {s : List ℕ} {at : ℕ} (i : ℕ) → Through s at i → FourWhite s i → Through s at (i + 4)
+through-four {s} {at} i t w =
+    let l = w .within in
+    let a = through-next i t (omega (arith, l)) (w .first) in
+    let b = through-next (i + 1) a (omega (arith, l)) (w .second) in
+    let c : Through s at (i + 2) = subst (λ z. Through s at z) (omega arith) b in
+    let d = through-next (i + 2) c (omega (arith, l)) (w .third) in
+    let e : Through s at (i + 3) = subst (λ z. Through s at z) (omega arith) d in
+    subst (λ z. Through s at z) (omega arith) (through-next (i + 3) e (omega (arith, l)) (w .fourth))
 
 -- text
 pub along-start : (s : List ℕ) (at : ℕ) → at ≤ length s → Along s at at
@@ -192,3 +259,53 @@ spelt-next {s} {at} i t h n e =
           ∙ rw (longer s at i (omega arith) h, room)
           (from-next s _ i h (name-step depth lt (take (i - at) (drop at s)) (at + 32 - (i + 1)) k i (getD s i 0) e));
     }
+
+-- Bytes of a rank or a higher one: every one of them, from an offset on.
+module _ {s : List ℕ} {at stop n r : ℕ} (t : Run s at stop n r) (h : stop ≤ length s) where
+  -- they are text
+  along-so-far : 1 ≤ n → (m : ℕ) → at + m ≤ r → Along s at (at + m)
+  along-so-far l zero u = subst (λ z. Along s at z) (omega arith) (along-start s at (let a = t .rises in let b = t .within in omega (arith, a, b, h)))
+  along-so-far l (suc m) u =
+      let a = t .ranked (at + m) (omega arith) (omega (arith, u)) in
+      let b = t .within in
+      subst (λ z. Along s at z) (omega arith)
+      (along-next (at + m) (along-so-far l m (omega (arith, u))) (omega (arith, u, b, h))
+      (text-from (getD s (at + m) 0) ∙ le-leb 1 (rank (getD s (at + m) 0)) (omega (arith, l, a))))
+
+  pub along-run : 1 ≤ n → Along s at r
+  along-run l = let a = t .rises in subst (λ z. Along s at z) (omega (arith, a)) (along-so-far l (r - at) (omega (arith, a)))
+
+  -- they are characters of values
+  pub values-run : 3 ≤ n → (k : ℕ) → at ≤ k → k < r → value-character (getD s k 0) ≡ true
+  values-run l k a b = let c = t .ranked k a b in value-from (getD s k 0) ∙ le-leb 3 (rank (getD s k 0)) (omega (arith, l, c))
+
+  -- and the byte behind them is no text
+  pub text-over : n ≡ 1 → r < stop → text-byte (getD s r 0) ≡ false
+  text-over e l = let c = t .other l in text-from (getD s r 0) ∙ lt-leb 1 (rank (getD s r 0)) (omega (arith, e, c))
+
+-- a name, of which the first byte has been read
+module _ {s : List ℕ} {at stop r : ℕ} (t : Run s (at + 1) stop 5 r) (h : stop ≤ length s) (u : stop ≤ at + 32) where
+  spelt-so-far : (m : ℕ) → at + 1 + m ≤ r → Spelt s at (at + 1 + m)
+  spelt-so-far zero l = subst (λ z. Spelt s at z) (omega arith) (spelt-start s at (let a = t .rises in let b = t .within in omega (arith, a, b, h)))
+  spelt-so-far (suc m) l =
+      let a = t .ranked (at + 1 + m) (omega arith) (omega (arith, l)) in
+      let b = t .within in
+      subst (λ z. Spelt s at z) (omega arith)
+      (spelt-next (at + 1 + m) (spelt-so-far m (omega (arith, l))) (omega (arith, l, b, h)) (λ e. omega (arith, e, l, b, u))
+      (name-from (getD s (at + 1 + m) 0) ∙ le-leb 5 (rank (getD s (at + 1 + m) 0)) a))
+
+  pub name-run : (stop < at + 32 → stop ≡ length s) → Name s at r
+  name-run f =
+      let a = t .rises in
+      let b = t .within in
+      record {
+        spelt = subst (λ z. Spelt s at z) (omega (arith, a)) (spelt-so-far (r - (at + 1)) (omega (arith, a)));
+        other = λ l e. further l e (decLe stop r) (decLe (at + 32) stop);
+      }
+    where
+      further : r < length s → letter-or-digit (getD s r 0) ≡ true → Dec (stop ≤ r) → Dec (at + 32 ≤ stop) → r ≡ at + 32
+      further l e (yes m) (yes n) = let b = t .within in omega (arith, m, n, b, u)
+      further l e (yes m) (no n) = let z = f (omega (arith, n)) in absurd (omega (arith, l, m, z))
+      further l e (no m) d =
+          let c = t .other (omega (arith, m)) in
+          absurd (false≢true (sym (name-from (getD s r 0) ∙ lt-leb 5 (rank (getD s r 0)) c) ∙ e))

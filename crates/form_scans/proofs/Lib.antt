@@ -1,3 +1,3 @@
 -- Laws that belong to no one function.
 pub mod Laws
-mod TagLaws
+pub mod TagLaws

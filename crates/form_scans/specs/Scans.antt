@@ -1,15 +1,16 @@
--- What the functions of `scans` and `form` say: how the machine of `paper` runs on from where they begin to where they end.
+-- What the functions of `form_scans` say: how the machine of `paper` runs on from where they begin to where they end.
 use Prim.Native.Nat.{ℕ, _+_, _-_, _≤_, _<_}
 use mathlib.Core.List.{List, [], _∷_}
 use mathlib.Core.Bool.{Bool, true, false}
 use mathlib.Core.Path.{_≡_}
 use lib.ListN.{length, getD, take, drop}
-use Rattle.paper.specs.Bytes.{bytes, white, text-byte, capital, letter-or-digit}
+use Rattle.paper.specs.Bytes.{bytes, white, text-byte, value-character, capital, letter-or-digit}
 use Rattle.paper.specs.Form.{Element}
-use Rattle.paper.specs.Computed.Reading.{Open, State, opening, before, after, angle, want, blank, in-text, naming, capitals, in-amount, run, Reading, stops-at}
+use Rattle.paper.specs.Computed.Reading.{Open, State, want, blank, in-text, naming, capitals, in-amount, run, Reading, stops-at}
 use Rattle.form_scans.specs.declared.Scan.{Scan}
 use Rattle.form_scans.specs.declared.Scan.the-variants.{To, StopsAt}
 use Rattle.paper_grammar.specs.Stays.{Stays}
+use Rattle.form_ranks.specs.Ranks.{rank}
 
 -- the machine in a state, with the rest of the text from an offset on
 unfoldable pub from : List ℕ → State → ℕ → Reading
@@ -21,21 +22,26 @@ pub data Scanned {K A : Type 0} (s : List ℕ) (at : ℕ) (ahead : K → State) 
   stops : {n : ℕ} → ((k : K) → from s (ahead k) at ≡ stops-at n) → Scanned s at ahead behind (StopsAt n)
 
 -- these very bytes
-abbrev pub Word : (s : List ℕ) (at : ℕ) (w : List ℕ) → Scan → Type 0
-Word s at w r = Scanned {A = Unit {0}} s at (λ q. want w q) (λ q _. q) r
+pub record Word (s : List ℕ) (at : ℕ) (w : List ℕ) (r : Scan) : Type 0 where
+  pub reads : Scanned {A = Unit {0}} s at (λ q. want w q) (λ q _. q) r
+  pub goes : (p : ℕ) → r ≡ To p → p ≡ at + length w
 
--- an element
-abbrev pub Read : (s : List ℕ) (at : ℕ) → ((Element → State) → State) → Scan → Type 0
-Read s at ahead r = Scanned s at ahead (λ k (t : Element). k t) r
+-- the offset that a scan has come to
+unfoldable pub end-of : Scan → ℕ
+end-of (To p) = p
+end-of (StopsAt n) = n
 
--- a start tag of a name, for an element of a depth
-pub record Tag (name : List ℕ) (depth : ℕ) : Type 0 where
+-- a start tag of a name, for an element of a depth whose `<` stands at an offset, up to another
+pub record Tag (name : List ℕ) (depth lt end : ℕ) : Type 0 where
   pub tag : Open
   pub its-name : tag .name ≡ name
   pub its-depth : tag .depth ≡ depth
+  pub its-at : tag .at ≡ lt
+  pub its-start : tag .start ≡ end
+  pub long : lt + 2 + length name ≤ end
 
-abbrev pub Opened : (s : List ℕ) (at : ℕ) (name : List ℕ) (depth : ℕ) → ((Element → State) → State) → Scan → Type 0
-Opened s at name depth ahead r = Scanned s at ahead (λ k (o : Tag name depth). blank (o .tag) [] k) r
+abbrev pub Opened : (s : List ℕ) (at : ℕ) (name : List ℕ) (depth lt : ℕ) → ((Element → State) → State) → Scan → Type 0
+Opened s at name depth lt ahead r = Scanned s at ahead (λ k (o : Tag name depth lt (end-of r)). blank (o .tag) [] k) r
 
 -- white space between two offsets
 pub record Through (s : List ℕ) (at r : ℕ) : Type 0 where
@@ -43,11 +49,27 @@ pub record Through (s : List ℕ) (at r : ℕ) : Type 0 where
   pub within : r ≤ length s
   pub stays : (q : State) → Stays q → from s q at ≡ from s q r
   pub blanks : (o : Open) (w : List ℕ) → (w′ : List ℕ) × ((k : Element → State) → from s (blank o w k) at ≡ from s (blank o w′ k) r)
+  pub all-white : (k : ℕ) → at ≤ k → k < r → white (getD s k 0) ≡ true
+
+-- four bytes of it
+pub record FourWhite (s : List ℕ) (at : ℕ) : Type 0 where
+  pub within : at + 4 ≤ length s
+  pub first : white (getD s at 0) ≡ true
+  pub second : white (getD s (at + 1) 0) ≡ true
+  pub third : white (getD s (at + 2) 0) ≡ true
+  pub fourth : white (getD s (at + 3) 0) ≡ true
 
 -- white space up to the first other byte
 pub record White (s : List ℕ) (at r : ℕ) : Type 0 where
   pub through : Through s at r
   pub other : r < length s → white (getD s r 0) ≡ false
+
+-- bytes of a rank or a higher one, up to the first other byte, or up to an offset
+pub record Run (s : List ℕ) (at stop n r : ℕ) : Type 0 where
+  pub rises : at ≤ r
+  pub within : r ≤ stop
+  pub ranked : (k : ℕ) → at ≤ k → k < r → n ≤ rank (getD s k 0)
+  pub other : r < stop → rank (getD s r 0) < n
 
 -- a name, or its beginning, between two offsets
 pub record Spelt (s : List ℕ) (at r : ℕ) : Type 0 where
@@ -68,8 +90,13 @@ pub record CapitalAt (s : List ℕ) (at : ℕ) (r : Bool) : Type 0 where
   pub not-there : r ≡ false → at < length s → capital (getD s at 0) ≡ false
 
 -- the three letters of a currency
-abbrev pub Capitals : (s : List ℕ) (at : ℕ) → Scan → Type 0
-Capitals s at r = Scanned s at (λ k. capitals 2 [] k) (λ k (letters : List ℕ). k letters) r
+pub record Letters : Type 0 where
+  pub letters : List ℕ
+  pub three : length letters ≡ 3
+
+pub record Capitals (s : List ℕ) (at : ℕ) (r : Scan) : Type 0 where
+  pub reads : Scanned s at (λ k. capitals 2 [] k) (λ k (l : Letters). k (l .letters)) r
+  pub goes : (p : ℕ) → r ≡ To p → p ≡ at + 3
 
 -- behind `<InstdAmt ` of an element of a depth, whose `<` stands at an offset
 unfoldable pub opens-currency : (depth lt : ℕ) → (Element → State) → State
@@ -81,36 +108,12 @@ pub record Along (s : List ℕ) (at r : ℕ) : Type 0 where
   pub within : r ≤ length s
   pub texts : (o : Open) (w : List ℕ) → (w′ : List ℕ) × ((k : Element → State) → from s (in-text o w k) at ≡ from s (in-text o w′ k) r)
 
+-- characters of values up to the first other byte, which are text
+pub record Values (s : List ℕ) (at r : ℕ) : Type 0 where
+  pub along : Along s at r
+  pub in-set : (k : ℕ) → at ≤ k → k < r → value-character (getD s k 0) ≡ true
+
 -- text up to the first other byte
 pub record Text (s : List ℕ) (at r : ℕ) : Type 0 where
   pub along : Along s at r
   pub other : r < length s → text-byte (getD s r 0) ≡ false
-
--- whether a `<` at an offset is followed by a byte other than `/`
-pub record Child (s : List ℕ) (at : ℕ) : Type 0 where
-  pub angled : getD s at 0 ≡ 60
-  pub within : at + 1 < length s
-  pub no-slash : getD s (at + 1) 0 ≡ 47 → ⊥
-
-pub record ChildAt (s : List ℕ) (at : ℕ) (r : Bool) : Type 0 where
-  pub there : r ≡ true → Child s at
-  pub not-there : r ≡ false → Child s at → ⊥
-
--- the text of an element of a name, and its end tag
-abbrev pub TextOf : (s name : List ℕ) (at : ℕ) → Scan → Type 0
-TextOf s name at r = (o : Open) (w : List ℕ) → o .name ≡ name → Read s at (in-text o w) r
-
--- Elements whose depth and what is left of it make 12: what one holds, with its end tag; and a child, behind its `<`.
-pub record ContentOf (s name : List ℕ) (at left : ℕ) (r : Scan) : Type 0 where
-  pub reads : (o : Open) → o .name ≡ name → o .depth + left ≡ 12 → Read s at (blank o []) r
-
-pub record ElementAt (s : List ℕ) (at left : ℕ) (r : Scan) : Type 0 where
-  pub reads : (depth lt : ℕ) → depth + left ≡ 13
-      → Scanned s at (λ (x : State × (Element → State)). angle depth lt (x .0) (x .1)) (λ x (t : Element). x .1 t) r
-
--- the whole message up to a state in which the root is still to come, and up to behind the root
-abbrev pub Prologue : (s : List ℕ) → Scan → Type 0
-Prologue s r = Scanned {K = Unit {0}} {A = Unit {0}} s 0 (λ _. opening) (λ _ _. before) r
-
-abbrev pub RootAt : (s : List ℕ) (at : ℕ) (q : State) → Scan → Type 0
-RootAt s at q r = Scanned {K = Unit {0}} s at (λ _. q) (λ _ (t : Element). after t) r

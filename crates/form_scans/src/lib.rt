@@ -1,12 +1,16 @@
 // Parts of the written form, read from an offset on: white space, names, text, fixed bytes, tags.
+use form_ranks::Ranks;
 ghost use mathlib.Core.Path.{_≡_};
-ghost use mathlib.Core.Bool.{false};
-ghost use Prim.Native.Nat.{ℕ, _≤_, _<_};
+ghost use mathlib.Core.Bool.{true, false};
+ghost use mathlib.Core.List.{List};
+ghost use Prim.Native.Nat.{ℕ, _+_, _≤_, _<_};
 ghost use lib.ListN.{length, getD};
 ghost use Rattle.paper.specs.Bytes.{bytes, letter-or-digit};
 ghost use Rattle.paper.specs.Form.{end-tag};
 ghost use Rattle.paper.specs.Computed.Reading.{naming};
-ghost use Rattle.form_scans.specs.Scans.{Word, Opened, White, Name, Text, CapitalAt, Capitals, opens-currency};
+ghost use Rattle.form_ranks.specs.Ranks.{RanksAre};
+ghost use Rattle.form_names.specs.Names.{name-number};
+ghost use Rattle.form_scans.specs.Scans.{Word, Opened, FourWhite, White, Run, Name, Values, Text, CapitalAt, Capitals, opens-currency};
 
 // Some part of the message was read to an offset, or stops at one.
 pub enum Scan {
@@ -14,13 +18,53 @@ pub enum Scan {
     StopsAt(usize),
 }
 
+// Four bytes of white space stand at an offset.
+fn four_white(s: &[u8], ranks: &Ranks, at: usize) -> bool
+    ensures { λ r. ⌜ (r ≡ true → at + 4 ≤ length (now (s .entry))) × (RanksAre (now (ranks .entry)) → r ≡ true → FourWhite (now (s .entry)) at) ⌝ }
+{
+    if s.len() <= at {
+        return false;
+    }
+    if s.len() - at < 4 {
+        return false;
+    }
+    if !form_ranks::is_white(ranks, s[at]) {
+        return false;
+    }
+    if !form_ranks::is_white(ranks, s[at + 1]) {
+        return false;
+    }
+    if !form_ranks::is_white(ranks, s[at + 2]) {
+        return false;
+    }
+    form_ranks::is_white(ranks, s[at + 3])
+}
+
 // The white space at an offset ends at the first other byte.
-pub fn white_end(s: &[u8], at: usize) -> usize
-    ensures { λ r. ⌜ (at ≤ length (now (s .entry)) → White (now (s .entry)) at r) ⌝ }
+pub fn white_end(s: &[u8], ranks: &Ranks, at: usize) -> usize
+    ensures { λ r. ⌜ (RanksAre (now (ranks .entry)) → at ≤ length (now (s .entry)) → White (now (s .entry)) at r) ⌝ }
 {
     let mut i = at;
+    while four_white(s, ranks, i) {
+        i += 4;
+    }
     while i < s.len() {
-        if !form_ranks::is_white(s[i]) {
+        if !form_ranks::is_white(ranks, s[i]) {
+            return i;
+        }
+        i += 1;
+    }
+    i
+}
+
+// The bytes from an offset on that have this rank or a higher one, up to another offset at most.
+fn run_end(s: &[u8], ranks: &Ranks, at: usize, stop: usize, rank: u8) -> usize
+    requires { ⌜ (at ≤ stop) × (stop ≤ length (now s)) ⌝ }
+    ensures { λ r. ⌜ (RanksAre (now (ranks .entry)) → Run (now (s .entry)) at stop rank r) ⌝ }
+{
+    let mut i = at;
+    while i < stop {
+        if form_ranks::rank(ranks, s[i]) < rank {
             return i;
         }
         i += 1;
@@ -29,24 +73,16 @@ pub fn white_end(s: &[u8], at: usize) -> usize
 }
 
 // The name that begins with the letter at an offset ends at the first byte that is no letter or digit, or is its 33rd.
-pub fn name_end(s: &[u8], at: usize) -> usize
-    ensures { λ r. ⌜ (at < length (now (s .entry)) → Name (now (s .entry)) at r) ⌝ }
+pub fn name_end(s: &[u8], ranks: &Ranks, at: usize) -> usize
+    ensures { λ r. ⌜ (RanksAre (now (ranks .entry)) → at < length (now (s .entry)) → Name (now (s .entry)) at r) ⌝ }
 {
     if s.len() <= at {
         return at;
     }
-    let limit = at + 32;
-    let mut i = at + 1;
-    while i < s.len() {
-        if i == limit {
-            return i;
-        }
-        if !form_ranks::is_letter_or_digit(s[i]) {
-            return i;
-        }
-        i += 1;
+    if s.len() - at < 32 {
+        return run_end(s, ranks, at + 1, s.len(), 5);
     }
-    i
+    run_end(s, ranks, at + 1, at + 32, 5)
 }
 
 // These very bytes.
@@ -82,57 +118,58 @@ pub fn end_tag(s: &[u8], name: &[u8], at: usize) -> Scan
 }
 
 // Whether a capital stands at an offset.
-fn capital_at(s: &[u8], at: usize) -> bool
-    ensures { λ r. ⌜ CapitalAt (now (s .entry)) at r ⌝ }
+fn capital_at(s: &[u8], ranks: &Ranks, at: usize) -> bool
+    ensures { λ r. ⌜ (RanksAre (now (ranks .entry)) → CapitalAt (now (s .entry)) at r) ⌝ }
 {
     if at >= s.len() {
         return false;
     }
-    form_ranks::is_capital(s[at])
+    7 <= form_ranks::rank(ranks, s[at])
 }
 
 // The letters of a currency.
-fn three_capitals(s: &[u8], at: usize) -> Scan
+fn three_capitals(s: &[u8], ranks: &Ranks, at: usize) -> Scan
     requires { ⌜ at ≤ length (now s) ⌝ }
-    ensures { λ r. ⌜ Capitals (now (s .entry)) at r ⌝ }
+    ensures { λ r. ⌜ (RanksAre (now (ranks .entry)) → Capitals (now (s .entry)) at r) ⌝ }
 {
-    if !capital_at(s, at) {
+    if !capital_at(s, ranks, at) {
         return Scan::StopsAt(at);
     }
-    if !capital_at(s, at + 1) {
+    if !capital_at(s, ranks, at + 1) {
         return Scan::StopsAt(at + 1);
     }
-    if !capital_at(s, at + 2) {
+    if !capital_at(s, ranks, at + 2) {
         return Scan::StopsAt(at + 2);
     }
     Scan::To(at + 3)
 }
 
 // The start tag of an amount, behind `<InstdAmt `.
-fn currency(s: &[u8], at: usize) -> Scan
+fn currency(s: &[u8], ranks: &Ranks, at: usize) -> Scan
     requires { ⌜ at ≤ length (now s) ⌝ }
-    ensures { λ r. ⌜ ((depth lt : ℕ) → Opened (now (s .entry)) at (bytes "InstdAmt") depth (opens-currency depth lt) r) ⌝ }
+    ensures { λ r. ⌜ (RanksAre (now (ranks .entry)) → (depth lt : ℕ) → at ≡ lt + 10
+        → Opened (now (s .entry)) at (bytes "InstdAmt") depth lt (opens-currency depth lt) r) ⌝ }
 {
     match word(s, at, b"Ccy=\"") {
         Scan::StopsAt(n) => Scan::StopsAt(n),
-        Scan::To(p) => match three_capitals(s, p) {
+        Scan::To(p) => match three_capitals(s, ranks, p) {
             Scan::StopsAt(n) => Scan::StopsAt(n),
             Scan::To(q) => word(s, q, b"\">"),
         },
     }
 }
 
-// A start tag behind its name.
-pub fn tag_end(s: &[u8], name: &[u8], at: usize) -> Scan
-    ensures { λ r. ⌜ (at < length (now (s .entry)) → letter-or-digit (getD (now (s .entry)) at 0) ≡ false → (depth lt room : ℕ)
-        → Opened (now (s .entry)) at (now (name .entry)) depth (naming depth lt (now (name .entry)) room) r) ⌝ }
+// A start tag behind its name, of which the number is known.
+pub fn tag_end(s: &[u8], ranks: &Ranks, number: usize, at: usize) -> Scan
+    ensures { λ r. ⌜ (RanksAre (now (ranks .entry)) → at < length (now (s .entry)) → letter-or-digit (getD (now (s .entry)) at 0) ≡ false
+        → (name : List ℕ) (depth lt room : ℕ) → number ≡ name-number name → at ≡ lt + 1 + length name
+        → Opened (now (s .entry)) at name depth lt (naming depth lt name room) r) ⌝ }
 {
     if s.len() <= at {
         return Scan::StopsAt(at);
     }
-    let amount = leaf_texts::same(name, b"InstdAmt");
     if s[at] == b'>' {
-        if amount {
+        if number == 42 {
             return Scan::StopsAt(at);
         }
         return Scan::To(at + 1);
@@ -140,22 +177,28 @@ pub fn tag_end(s: &[u8], name: &[u8], at: usize) -> Scan
     if s[at] != b' ' {
         return Scan::StopsAt(at);
     }
-    if !amount {
+    if number != 42 {
         return Scan::StopsAt(at);
     }
-    currency(s, at + 1)
+    currency(s, ranks, at + 1)
+}
+
+// The characters of values at an offset end at the first other byte.
+pub fn value_end(s: &[u8], ranks: &Ranks, at: usize) -> usize
+    ensures { λ r. ⌜ (RanksAre (now (ranks .entry)) → at ≤ length (now (s .entry)) → Values (now (s .entry)) at r) ⌝ }
+{
+    if s.len() < at {
+        return at;
+    }
+    run_end(s, ranks, at, s.len(), 3)
 }
 
 // Text ends at the first other byte.
-pub fn text_end(s: &[u8], at: usize) -> usize
-    ensures { λ r. ⌜ (at ≤ length (now (s .entry)) → Text (now (s .entry)) at r) ⌝ }
+pub fn text_end(s: &[u8], ranks: &Ranks, at: usize) -> usize
+    ensures { λ r. ⌜ (RanksAre (now (ranks .entry)) → at ≤ length (now (s .entry)) → Text (now (s .entry)) at r) ⌝ }
 {
-    let mut i = at;
-    while i < s.len() {
-        if !form_ranks::is_text(s[i]) {
-            return i;
-        }
-        i += 1;
+    if s.len() < at {
+        return at;
     }
-    i
+    run_end(s, ranks, at, s.len(), 1)
 }

@@ -1,12 +1,11 @@
--- The rule of 97: the remainder that is taken character by character is that of the whole number.
-use Prim.Native.Nat.{ℕ, suc, _+_, _*_, _-_, _/_, _%_, _<_}
+-- The rule of 97: the remainder that is taken character by character, or after each four, is that of the whole number.
+use Prim.Native.Nat.{ℕ, _+_, _*_, _-_, _/_, _%_, _<_}
 use mathlib.Core.Path.{_≡_, refl, ap, sym, _∙_}
 use mathlib.Core.List.{List, [], _∷_, _++_}
 use mathlib.Core.Bool.{Bool, true, false}
 use native.Mathlib.Nat.{mod-mod, mod-eq-of-lt, add-mul, mul-assoc, div-add-mod, add-mul-mod-self-left}
 use native.Mathlib.Omega.{arith}
 use lib.ListN.{length, getD, take, drop}
-use lib.Seq.{take-all}
 use Rattle.paper.specs.Bytes.{if_then_else_, digit}
 use Rattle.paper.specs.Values.{read-after, moved, number-after, number}
 use Rattle.leaf_accounts.specs.Remainders.{read-one, remainder-after}
@@ -33,6 +32,10 @@ one-alike m n b e = by (digit b)
         (if c then m * 10 + (b - 48) else m * 100 + (b - 65 + 10)) % 97 ≡ (if c then n * 10 + (b - 48) else n * 100 + (b - 65 + 10)) % 97
     by true = held m 10 (b - 48) ∙ rw e (sym (held n 10 (b - 48)))
     by false = held m 100 (b - 65 + 10) ∙ rw e (sym (held n 100 (b - 65 + 10)))
+
+-- a character more behind the remainder leaves what it leaves behind the number
+one-held : (n b : ℕ) → read-one (n % 97) b % 97 ≡ read-one n b % 97
+one-held n b = one-alike (n % 97) n b (mod-mod n 97)
 
 -- The remainder taken character by character is the remainder of the whole number.
 pub remainder-is : (r n : ℕ) (s : List ℕ) → r < 97 → r % 97 ≡ n % 97 → remainder-after r s ≡ read-after n s % 97
@@ -92,11 +95,31 @@ rule-of-97 w = moved-remainder w ∙ ap (λ (x : ℕ). x % 97) (read-is-number 0
 
 -- one character and the rest
 pub remainder-goes :
-    (r q : ℕ) (s : List ℕ) → (length s ≡ 0 → ⊥) → q ≡ read-one r (getD s 0 0) % 97 →
-    remainder-after q (take (length s - 1) (drop 1 s)) ≡ remainder-after r s
+    (r n : ℕ) (s : List ℕ) → (length s ≡ 0 → ⊥) → n ≡ read-one r (getD s 0 0) →
+    remainder-after (n % 97) (take (length s - 1) (drop 1 s)) ≡ remainder-after r s
 unfolding remainder-after
-remainder-goes r q [] h e = absurd (h refl)
-remainder-goes r q (b ∷ s) h e = rw (take-all (suc (length s) - 1) s (omega arith), e)
+remainder-goes r n [] h e = absurd (h refl)
+remainder-goes r n (b ∷ s) h e = rw (rest-is (b ∷ s) 1, e)
+
+-- four characters read behind a number leave what they leave with the remainder taken after each
+remainder-by-four :
+    (r a b c d : ℕ) (s : List ℕ) →
+    remainder-after (read-one (read-one (read-one (read-one r a) b) c) d % 97) s ≡ remainder-after r (a ∷ b ∷ c ∷ d ∷ s)
+unfolding remainder-after
+remainder-by-four r a b c d s =
+    ap (λ (x : ℕ). remainder-after x s)
+    (sym (rw (one-held (read-one r a) b, one-held (read-one (read-one r a) b) c, one-held (read-one (read-one (read-one r a) b) c) d)))
+
+-- four characters and the rest
+pub remainder-goes-by-four :
+    (r one two three four : ℕ) (s : List ℕ) → 3 < length s → one ≡ read-one r (getD s 0 0) → two ≡ read-one one (getD s 1 0) →
+    three ≡ read-one two (getD s 2 0) → four ≡ read-one three (getD s 3 0) →
+    remainder-after (four % 97) (take (length s - 4) (drop 4 s)) ≡ remainder-after r s
+remainder-goes-by-four r one two three four (a ∷ []) h e f g k = absurd (omega arith)
+remainder-goes-by-four r one two three four (a ∷ b ∷ []) h e f g k = absurd (omega arith)
+remainder-goes-by-four r one two three four (a ∷ b ∷ c ∷ []) h e f g k = absurd (omega arith)
+remainder-goes-by-four r one two three four (a ∷ b ∷ c ∷ d ∷ s) h e f g k =
+    rw (rest-is (a ∷ b ∷ c ∷ d ∷ s) 4, k, g, f, e) (remainder-by-four r a b c d s)
 
 pub remainder-ends : (r : ℕ) (s : List ℕ) → length s ≡ 0 → remainder-after r s ≡ r
 unfolding remainder-after

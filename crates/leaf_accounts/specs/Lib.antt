@@ -1,2 +1,2 @@
--- The remainder by 97 as code takes it.
+-- The remainder by 97, taken character by character.
 pub mod Remainders

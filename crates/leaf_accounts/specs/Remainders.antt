@@ -1,4 +1,4 @@
--- The rules of an account as code takes them; proofs/Account.antt shows that they are the paper's.
+-- The rule of an account, character by character; proofs/Account.antt shows that it is the paper's, and that the code's four at a time come to the same.
 use Prim.Native.Nat.{ℕ, _+_, _*_, _-_, _%_}
 use mathlib.Core.List.{List, [], _∷_}
 use Rattle.paper.specs.Bytes.{if_then_else_, digit}

@@ -1,17 +1,23 @@
 -- Laws that the proofs of the leaf cite.
 use Prim.Native.Nat.{ℕ, _<_, _≤_}
-use mathlib.Core.Path.{_≡_}
+use mathlib.Core.Path.{_≡_, refl}
 use mathlib.Core.List.{List, [], _∷_}
-use mathlib.Core.Bool.{true, false}
+use mathlib.Core.Bool.{Bool, true, false}
 use native.Mathlib.Omega.{arith}
 use lib.ListN.{length}
 use borrow.Author.Tests.{ne-eqb, le-leb, lt-leb}
-use Rattle.paper.specs.Bytes.{is, every, value-character}
+use Rattle.paper.specs.Bytes.{is, Every, every-none, every-more, every, value-character}
 use Rattle.paper.specs.Values.{among, lies-from, right-for, spaces-alone, allowed}
 use Rattle.paper.specs.Refusals.{first-not, leaf-refusal}
 use Rattle.leaf_texts.proofs.Laws.{one-first}
 use Rattle.leaf_values.specs.Judgements.{told, Judges}
 use Rattle.leaf_values.specs.declared.Judgement.the-variants.{Fine, EmptyOrTooLong, NotInTheSet, NotAllowed}
+
+-- where every byte is of a kind, none is the first that is not
+pub all-first : {p : ℕ → Bool} {w : List ℕ} → Every p w → length w ≡ first-not p w
+unfolding first-not
+all-first every-none = refl
+all-first (every-more e h) = rw (e, all-first h)
 
 -- a row that has no rule of its own
 pub free :

@@ -2,8 +2,9 @@
 ghost use mathlib.Core.Path.{_≡_};
 ghost use mathlib.Core.Bool.{_&&_};
 ghost use mathlib.Core.List.{[], _∷_};
-ghost use Rattle.paper.specs.Bytes.{if_then_else_, bytes, same};
+ghost use Rattle.paper.specs.Bytes.{if_then_else_, bytes, same, value-character, Every};
 ghost use Rattle.paper.specs.Values.{among, right-for, amount};
+ghost use Rattle.paper.specs.Refusals.{first-not};
 ghost use Rattle.leaf_values.specs.Judgements.{Judges};
 ghost use lib.Dec.{eqb};
 
@@ -83,9 +84,27 @@ fn right_for(parent: usize, row: usize, currency: &[u8], s: &[u8]) -> bool
     }
 }
 
+// The place of the first character that is not in the set; the length where there is none. Where it is known that the text is of the characters of values
+// alone (3, crates/tree/specs/Laid.antt), they are not looked at again.
+fn first_outside(s: &[u8], known: usize) -> usize
+    ensures { λ r. ⌜ ((known ≡ 3 → Every value-character (now (s .entry))) → r ≡ first-not value-character (now (s .entry))) ⌝ }
+{
+    if known == 3 {
+        return s.len();
+    }
+    leaf_characters::first_outside(s)
+}
+
 // One leaf, tried 6, 7, 8: empty or too long; a character not in the set, with its place in the text; a value not allowed.
-pub fn leaf(parent: usize, row: usize, longest: usize, currency: &[u8], s: &[u8]) -> Judgement
-    ensures { λ r. ⌜ Judges parent row longest (now (currency .entry)) (now (s .entry)) r ⌝ }
+pub fn leaf(
+    parent: usize,
+    row: usize,
+    longest: usize,
+    currency: &[u8],
+    s: &[u8],
+    known: usize,
+) -> Judgement
+    ensures { λ r. ⌜ ((known ≡ 3 → Every value-character (now (s .entry))) → Judges parent row longest (now (currency .entry)) (now (s .entry)) r) ⌝ }
 {
     if s.len() < 1 {
         return Judgement::EmptyOrTooLong;
@@ -93,7 +112,7 @@ pub fn leaf(parent: usize, row: usize, longest: usize, currency: &[u8], s: &[u8]
     if longest < s.len() {
         return Judgement::EmptyOrTooLong;
     }
-    let at = leaf_characters::first_outside(s);
+    let at = first_outside(s, known);
     if at < s.len() {
         return Judgement::NotInTheSet { at };
     }

@@ -1,20 +1,20 @@
 -- Two elements that may be absent, compared by what is found of them; remittance, by its parts.
 use Prim.Native.Nat.{ℕ}
-use mathlib.Core.List.{List}
+use mathlib.Core.List.{List, _∷_}
 use mathlib.Core.Option.{Option, none, some}
 use mathlib.Core.Bool.{Bool, true, false}
-use mathlib.Core.Path.{_≡_, refl, sym, _∙_, subst}
+use mathlib.Core.Path.{_≡_, refl, sym, _∙_}
 use lib.Dec.{eqb}
 use Rattle.paper.specs.Bytes.{same}
 use Rattle.paper.specs.Form.{Element}
 use Rattle.paper.specs.Values.{cents}
-use Rattle.paper.specs.Payments.{text-of}
+use Rattle.paper.specs.Payments.{Payment, text-of, child, in-payment}
 use Rattle.paper.specs.Fields.{a-text, text-value, text-value-or, cents-value, issuer-text, remittance-value, same-issuer, same-value}
 use Rattle.paper.proofs.Laws.{false-not-true, some-not-none, same-tests}
-use Rattle.tree_routes.specs.Finds.{Finds, found-at, found-nothing, Leads, names-of}
+use Rattle.tree_routes.specs.Finds.{Finds, found-at, found-nothing, onward}
 use Rattle.tree_routes.specs.declared.Found.{Found}
-use Rattle.tree_fields.proofs.Fields.{in-payment-is}
-use Rattle.move_alike.specs.Alike.{is-absent, InPayment}
+use Rattle.tree_routes.proofs.Laws.{follow-step}
+use Rattle.move_alike.specs.Alike.{is-absent}
 
 -- two values of one text each
 pub one-text : {r : Bool} {a b v w : List ℕ} → r ≡ same a b → a ≡ v → b ≡ w → r ≡ same-value (a-text v) (a-text w)
@@ -128,8 +128,8 @@ module _ (i j : Option Element) where
       → x ≡ same-value (remittance-value f i r) (remittance-value g j q)
   not-free r q f g p d e = rw (p, d) e
 
--- a route in the payment, by its names
-pub in-payment-found : (route : List ℕ) {names : List (List ℕ)} {s tree : List ℕ} {own : ℕ} {found : Found} → names-of route ≡ names
-    → Leads s tree own names found → InPayment s tree own route found
-in-payment-found route {s = s} {tree} {found = found} e leads p m l =
-    subst (λ (o : Option Element). Finds s tree o found) (sym (in-payment-is route p e)) (leads (p .own) m l)
+-- a route in the payment, from the first child of its first row's name
+pub in-payment-found : (k : ℕ) (ks : List ℕ) (p : Payment) {s tree : List ℕ} {found : Found} → Finds s tree (onward ks (child k (p .own))) found
+    → Finds s tree (in-payment (k ∷ ks) p) found
+unfolding in-payment
+in-payment-found k ks p f = rw (follow-step k ks (p .own)) f

@@ -1,19 +1,20 @@
 // Elements of two payments that may be absent, compared: by their texts, by the text that absence means, in cents; and remittance (field 17).
+use tree::Tree;
+use tree_routes::Children;
 use tree_routes::Found;
 ghost use mathlib.Core.Path.{_≡_};
-ghost use mathlib.Core.List.{[], _∷_};
+ghost use mathlib.Core.List.{List};
 ghost use mathlib.Core.Option.{Option, none};
 ghost use Prim.Native.Nat.{ℕ};
 ghost use Rattle.paper.specs.Form.{Element};
 ghost use Rattle.paper.specs.Payments.{Payment};
 ghost use Rattle.paper.specs.Fields.{a-text, text-value, text-value-or, cents-value, remittance-value, same-value};
-ghost use Rattle.tree.specs.Laid.{Laid};
-ghost use Rattle.tree_routes.specs.Finds.{Finds};
+ghost use Rattle.tree_routes.specs.Finds.{Finds, ByName};
 ghost use Rattle.tree_leaves.specs.Readable.{ReadMoney};
-ghost use Rattle.move_alike.specs.Alike.{is-absent, InPayment, free-of, issuer-of, reference-of};
+ghost use Rattle.move_alike.specs.Alike.{is-absent, free-of, issuer-of, reference-of};
 
 // An element that may be absent has the text that its absence means.
-fn means(s: &[u8], tree: &[u16], found: Found, otherwise: &[u8]) -> bool
+fn means(s: &[u8], tree: &Tree, found: Found, otherwise: &[u8]) -> bool
     ensures { λ r. ⌜ ((o : Option Element) → Finds (now (s .entry)) (now (tree .entry)) o found
         → r ≡ same-value (a-text (now (otherwise .entry))) (text-value-or (now (otherwise .entry)) o)) ⌝ }
 {
@@ -26,10 +27,10 @@ fn means(s: &[u8], tree: &[u16], found: Found, otherwise: &[u8]) -> bool
 // Two elements that may be absent have the same text, where absence means this text.
 pub fn same_or(
     s1: &[u8],
-    tree1: &[u16],
+    tree1: &Tree,
     found1: Found,
     s2: &[u8],
-    tree2: &[u16],
+    tree2: &Tree,
     found2: Found,
     otherwise: &[u8],
 ) -> bool
@@ -61,10 +62,10 @@ fn absent(found: Found) -> bool
 // Both are absent, or both are there with the same text.
 pub fn same_given(
     s1: &[u8],
-    tree1: &[u16],
+    tree1: &Tree,
     found1: Found,
     s2: &[u8],
-    tree2: &[u16],
+    tree2: &Tree,
     found2: Found,
 ) -> bool
     ensures { λ r. ⌜ ((o u : Option Element) → Finds (now (s1 .entry)) (now (tree1 .entry)) o found1 → Finds (now (s2 .entry)) (now (tree2 .entry)) u found2
@@ -85,10 +86,10 @@ pub fn same_given(
 // Both amounts are absent, or both are there with the same number of cents.
 pub fn same_cents(
     s1: &[u8],
-    tree1: &[u16],
+    tree1: &Tree,
     found1: Found,
     s2: &[u8],
-    tree2: &[u16],
+    tree2: &Tree,
     found2: Found,
 ) -> bool
     ensures { λ r. ⌜ ((o u : Option Element) → Finds (now (s1 .entry)) (now (tree1 .entry)) o found1 → Finds (now (s2 .entry)) (now (tree2 .entry)) u found2
@@ -104,66 +105,65 @@ pub fn same_cents(
 }
 
 // Remittance: the free text, the issuer, the reference.
-fn free(s: &[u8], tree: &[u16], own: usize) -> Found
-    ensures { λ r. ⌜ InPayment (now (s .entry)) (now (tree .entry)) own (48 ∷ 49 ∷ []) r ⌝ }
+fn free(tree: &Tree, own: &Children) -> Found
+    ensures { λ r. ⌜ ((s : List ℕ) (p : Payment) → ByName s (now (tree .entry)) (p .own) (now (own .entry)) → Finds s (now (tree .entry)) (free-of p) r) ⌝ }
 {
-    tree_routes::follow2(s, tree, own, b"RmtInf", b"Ustrd")
+    tree_routes::follow(tree, tree_routes::first(own, 48), &[49])
 }
 
-fn issuer(s: &[u8], tree: &[u16], own: usize) -> Found
-    ensures { λ r. ⌜ InPayment (now (s .entry)) (now (tree .entry)) own (48 ∷ 50 ∷ 51 ∷ 52 ∷ 54 ∷ []) r ⌝ }
+fn issuer(tree: &Tree, own: &Children) -> Found
+    ensures { λ r. ⌜ ((s : List ℕ) (p : Payment) → ByName s (now (tree .entry)) (p .own) (now (own .entry)) → Finds s (now (tree .entry)) (issuer-of p) r) ⌝ }
 {
-    let kind = tree_routes::follow4(s, tree, own, b"RmtInf", b"Strd", b"CdtrRefInf", b"Tp");
-    tree_routes::child_under(s, tree, kind, b"Issr")
+    tree_routes::follow(tree, tree_routes::first(own, 48), &[50, 51, 52, 54])
 }
 
-fn reference(s: &[u8], tree: &[u16], own: usize) -> Found
-    ensures { λ r. ⌜ InPayment (now (s .entry)) (now (tree .entry)) own (48 ∷ 50 ∷ 51 ∷ 55 ∷ []) r ⌝ }
+fn reference(tree: &Tree, own: &Children) -> Found
+    ensures { λ r. ⌜ ((s : List ℕ) (p : Payment) → ByName s (now (tree .entry)) (p .own) (now (own .entry)) → Finds s (now (tree .entry)) (reference-of p) r) ⌝ }
 {
-    tree_routes::follow4(s, tree, own, b"RmtInf", b"Strd", b"CdtrRefInf", b"Ref")
+    tree_routes::follow(tree, tree_routes::first(own, 48), &[50, 51, 55])
 }
 
 // Field 17 where neither has a free text: the reference and its issuer.
 fn same_structured(
     s1: &[u8],
-    tree1: &[u16],
-    own1: usize,
+    tree1: &Tree,
+    own1: &Children,
     s2: &[u8],
-    tree2: &[u16],
-    own2: usize,
+    tree2: &Tree,
+    own2: &Children,
 ) -> bool
-    ensures { λ r. ⌜ ((p q : Payment) (m n : ℕ) → Laid (now (s1 .entry)) (now (tree1 .entry)) (p .own) own1 m
-        → Laid (now (s2 .entry)) (now (tree2 .entry)) (q .own) own2 n
+    ensures { λ r. ⌜ ((p q : Payment) → ByName (now (s1 .entry)) (now (tree1 .entry)) (p .own) (now (own1 .entry))
+        → ByName (now (s2 .entry)) (now (tree2 .entry)) (q .own) (now (own2 .entry))
         → r ≡ same-value (remittance-value none (issuer-of p) (reference-of p)) (remittance-value none (issuer-of q) (reference-of q))) ⌝ }
 {
-    let reference1 = reference(s1, tree1, own1);
-    let reference2 = reference(s2, tree2, own2);
+    let reference1 = reference(tree1, own1);
+    let reference2 = reference(tree2, own2);
     if !same_given(s1, tree1, reference1, s2, tree2, reference2) {
         return false;
     }
     let Found::At(_) = reference1 else {
         return true;
     };
-    let issuer1 = issuer(s1, tree1, own1);
-    let issuer2 = issuer(s2, tree2, own2);
+    let issuer1 = issuer(tree1, own1);
+    let issuer2 = issuer(tree2, own2);
     same_given(s1, tree1, issuer1, s2, tree2, issuer2)
 }
 
 // Field 17: its kind with its text, or with issuer and reference.
 pub fn same_remittance(
     s1: &[u8],
-    tree1: &[u16],
-    own1: usize,
+    tree1: &Tree,
+    own1: &Children,
     s2: &[u8],
-    tree2: &[u16],
-    own2: usize,
+    tree2: &Tree,
+    own2: &Children,
 ) -> bool
-    ensures { λ r. ⌜ ((p q : Payment) (m n : ℕ) → Laid (now (s1 .entry)) (now (tree1 .entry)) (p .own) own1 m
-        → Laid (now (s2 .entry)) (now (tree2 .entry)) (q .own) own2 n
+    ensures { λ r. ⌜ ((p q : Payment) → ByName (now (s1 .entry)) (now (tree1 .entry)) (p .own) (now (own1 .entry))
+        → ByName (now (s2 .entry)) (now (tree2 .entry)) (q .own) (now (own2 .entry))
         → r ≡ same-value (remittance-value (free-of p) (issuer-of p) (reference-of p)) (remittance-value (free-of q) (issuer-of q) (reference-of q))) ⌝ }
 {
-    let free1 = free(s1, tree1, own1);
-    let free2 = free(s2, tree2, own2);
+    let free1 = free(tree1, own1);
+    let free2 = free(tree2, own2);
     if let Found::At(_) = free1 {
         return same_given(s1, tree1, free1, s2, tree2, free2);
     }

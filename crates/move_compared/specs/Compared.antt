@@ -5,18 +5,16 @@ use mathlib.Core.Option.{Option, none, some}
 use lib.ListN.{getD}
 use Rattle.paper.specs.Payments.{Payment}
 use Rattle.paper.specs.Fields.{Value, absent, values-of}
-use Rattle.tree.specs.Laid.{Laid}
+use Rattle.tree_routes.specs.Finds.{ByName}
 use Rattle.tree_leaves.specs.Readable.{ReadMoney}
 use Rattle.move_compared.specs.declared.Field.{Field}
 use Rattle.move_compared.specs.declared.Field.the-variants.{Same, Differs}
 use Rattle.move_alike.specs.Alike.{amount-in}
 
--- A payment whose own element and block stand there, and whose amount is money.
-pub record Stands (s tree : List ℕ) (own block : ℕ) (p : Payment) : Type 0 where
-  pub own-next : ℕ
-  pub own-is : Laid s tree (p .own) own own-next
-  pub block-next : ℕ
-  pub block-is : Laid s tree (p .block) block block-next
+-- A payment whose first children are known, and its block's, and whose amount is money.
+pub record Stands (s tree own block : List ℕ) (p : Payment) : Type 0 where
+  pub own-is : ByName s tree (p .own) own
+  pub block-is : ByName s tree (p .block) block
   pub amount-is : ReadMoney (amount-in p)
 
 -- a field of a payment

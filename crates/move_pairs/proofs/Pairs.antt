@@ -1,15 +1,15 @@
 -- The walk over the ordinals: what is answered of each pair, and the marks that say which payments were named.
-use Prim.Native.Nat.{ℕ, zero, suc, _+_, _*_, _<_, _≤_}
+use Prim.Native.Nat.{ℕ, zero, suc, _+_, _<_, _≤_}
 use native.Mathlib.Omega.{arith}
 use native.Mathlib.Nat.{add-zero}
 use mathlib.Core.List.{List, [], _∷_, map}
 use mathlib.Core.Option.{none, some}
 use mathlib.Core.Bool.{Bool, true, false, _||_}
 use mathlib.Core.Path.{_≡_, refl, sym, ap, _∙_, subst}
-use lib.ListN.{length, getD, drop, set, replicate, length-map, getD-replicate, drop-of-length-le}
+use lib.ListN.{length, getD, drop, set, replicate, length-map, length-set, length-replicate, getD-replicate, drop-of-length-le}
 use lib.Seq.{drop-cons, getD-set-same, getD-set-other}
 use lib.Dec.{eqb}
-use borrow.Author.Tests.{eq-eqb, ne-eqb, eqb-true, eqb-false, lt-ltb, le-ltb}
+use borrow.Author.Tests.{eq-eqb, eqb-true, eqb-false, lt-ltb, le-ltb}
 use Rattle.paper.specs.Form.{Element}
 use Rattle.paper.specs.Values.{among}
 use Rattle.paper.specs.Payments.{Payment, payments}
@@ -17,32 +17,22 @@ use Rattle.paper.specs.Accepted.{All, all-none, all-more}
 use Rattle.paper.specs.Fields.{Value, values-of, differ-from}
 use Rattle.paper.specs.Bytes.{if_then_else_}
 use Rattle.paper.specs.Regrouping.{RegroupingAnswer, answered, pairing, all-values}
-use Rattle.rule_limits.specs.Ordered.{PaymentAt, PaymentsAt, no-payments, more-payments}
+use Rattle.tree_fields.specs.Routes.{RoutesAre}
+use Rattle.rule_limits.specs.Ordered.{IsPayment, payment-in, PaymentsAt, no-payments, more-payments}
 use Rattle.tree_leaves.specs.Readable.{ReadMoney}
 use Rattle.move_alike.specs.Alike.{amount-in}
-use Rattle.move_compared.specs.Compared.{lowest, Stands}
-use Rattle.move_pairs.specs.Pairs.{InOrder, pairs-say}
+use Rattle.move_compared.specs.Compared.{lowest}
+use Rattle.move_pairs.specs.Pairs.{InOrder, Marked, IsThere, Taken, pairs-say}
+use Rattle.move_pairs.specs.declared.InBlock.{InBlock}
 use Rattle.move_pairs.specs.declared.Paired.{Paired}
 use Rattle.move_pairs.specs.declared.Paired.the-variants as paired
 use Rattle.move_compared.specs.declared.Field.{Field}
 use Rattle.move_compared.specs.declared.Field.the-variants.{Same, Differs}
 
--- a payment at its place in the order
-pub stands : {s tree order : List ℕ} {k own block : ℕ} {p : Payment} → PaymentAt s tree order k p → ReadMoney (amount-in p) → own ≡ getD order (16 + 3 * k) 0
-    → block ≡ getD order (17 + 3 * k) 0 → Stands s tree own block p
-stands a m e f =
-    record {
-      own-next = a .own-next;
-      own-is = rw e (a .own-is);
-      block-next = a .block-next;
-      block-is = rw f (a .block-is);
-      amount-is = m;
-    }
-
 -- the payment that stands at a place among payments
 pub record There (s tree order : List ℕ) (k : ℕ) (v : List Value) : Type 0 where
   pub it : Payment
-  pub at : PaymentAt s tree order k it
+  pub at : IsPayment s tree (payment-in order k) it
   pub amount : ReadMoney (amount-in it)
   pub values : v ≡ values-of it
 
@@ -62,7 +52,9 @@ module _ {s tree order : List ℕ} {n : ℕ} {root : Element} (o : InOrder s tre
 
   pub payment-there : (k : ℕ) → k < n → There s tree order k (getD (all-values root) k [])
   unfolding all-values
-  payment-there k h = subst (λ (i : ℕ). There s tree order i (getD (map values-of (payments root)) k [])) (zero-add k) (there 0 (payments root) k (o .stand) (o .amounts) (omega (arith, o .number-is)))
+  payment-there k h =
+      let t = there 0 (payments root) k (o .stand) (o .amounts) (omega (arith, o .number-is)) in
+      subst (λ (i : ℕ). There s tree order i (getD (map values-of (payments root)) k [])) (zero-add k) t
     where
       zero-add : (k : ℕ) → 0 + k ≡ k
       zero-add k = omega arith
@@ -107,6 +99,7 @@ mark-more named marks o m h x l = go (eqb x o) refl
 
 -- How far the walk has come: these payments were named, as the marks say, and what is answered from here on is the answer.
 pub record SoFar (first second : List (List Value)) (ks marks : List ℕ) (k : ℕ) : Type 0 where
+  pub long : length marks ≡ 64
   pub named : List ℕ
   pub marked : (o : ℕ) → o < 64 → among o named ≡ eqb (getD marks o 0) 1
   pub from-here : pairing first 0 [] ks second ≡ pairing first k named (drop k ks) (drop k second)
@@ -115,16 +108,16 @@ pub at-start : (first second : List (List Value)) (ks : List ℕ) → SoFar firs
 unfolding among
 at-start first second ks =
     record {
+      long = length-replicate {A = ℕ} 64 0;
       named = [];
       marked = λ o h. ap (λ (n : ℕ). eqb n 1) (sym (getD-replicate 64 o 0 0 h));
       from-here = refl;
     }
 
--- what `differing_pair` says of payment o of the first message and payment k of the second
-abbrev pub Compares : (s1 tree1 order1 : List ℕ) (o : ℕ) (s2 tree2 order2 : List ℕ) (k : ℕ) → Field → Type 0
-Compares s1 tree1 order1 o s2 tree2 order2 k r =
-    o < 64 → k < 64 → (p q : Payment) → PaymentAt s1 tree1 order1 o p → ReadMoney (amount-in p) → PaymentAt s2 tree2 order2 k q → ReadMoney (amount-in q)
-    → lowest r ≡ differ-from 1 (values-of p) (values-of q)
+-- what `differing_pair` says of a payment of the first message and one of the second
+abbrev pub Compares : (routes : List (List ℕ)) (s1 tree1 : List ℕ) → InBlock → (s2 tree2 : List ℕ) → InBlock → Field → Type 0
+Compares routes s1 tree1 first s2 tree2 second r =
+    (p q : Payment) → RoutesAre routes → IsThere s1 tree1 first p → IsThere s2 tree2 second q → lowest r ≡ differ-from 1 (values-of p) (values-of q)
 
 module _ {s1 tree1 order1 s2 tree2 order2 : List ℕ} {n : ℕ} {root1 root2 : Element} (ks : List ℕ) {marks : List ℕ} {k : ℕ}
     (a : InOrder s1 tree1 order1 n root1) (b : InOrder s2 tree2 order2 n root2) (l : length ks ≡ n)
@@ -143,43 +136,45 @@ module _ {s1 tree1 order1 s2 tree2 order2 : List ℕ} {n : ℕ} {root1 root2 : E
     answers-18 g =
         sym (far .from-here ∙ too-large (all-values root1) k (far .named) ks (all-values root2) in-list in-second (omega (arith, how-long a)))
 
-    module _ (g : o < n) where
+    module _ (g : o < n) {after : List ℕ} {before : Bool} (m : Marked marks o after before) where
       in-first : getD ks k 0 < length (all-values root1)
       in-first = omega (arith, how-long a)
 
-      pub answers-19 : getD marks o 0 ≡ 1 → answered 19 k 0 ≡ pairing (all-values root1) 0 [] ks (all-values root2)
-      answers-19 m =
-          let x : among (getD ks k 0) (far .named) ≡ true =
-          ap (λ (y : ℕ). among y (far .named)) (sym e) ∙ far .marked o (omega (arith, a .few)) ∙ eq-eqb (getD marks o 0) 1 m in
-          sym (far .from-here ∙ named-before (all-values root1) k (far .named) ks (all-values root2) in-list in-second in-first x)
+      few : o < 64
+      few = omega (arith, a .few)
 
-      module _ (r : Field) (c : Compares s1 tree1 order1 o s2 tree2 order2 k r) (m : getD marks o 0 ≡ 1 → ⊥) where
-        not-named : among (getD ks k 0) (far .named) ≡ false
-        not-named = ap (λ (y : ℕ). among y (far .named)) (sym e) ∙ far .marked o (omega (arith, a .few)) ∙ ne-eqb (getD marks o 0) 1 m
+      is-named : among (getD ks k 0) (far .named) ≡ before
+      is-named = ap (λ (y : ℕ). among y (far .named)) (sym e) ∙ far .marked o few ∙ sym (m few .0)
 
+      pub answers-19 : before ≡ true → answered 19 k 0 ≡ pairing (all-values root1) 0 [] ks (all-values root2)
+      answers-19 t = sym (far .from-here ∙ named-before (all-values root1) k (far .named) ks (all-values root2) in-list in-second in-first (is-named ∙ t))
+
+      module _ (t : before ≡ false) {one two : InBlock} (x : Taken tree1 order1 o one) (y : Taken tree2 order2 k two)
+          {routes : List (List ℕ)} (w : RoutesAre routes) (r : Field) (c : Compares routes s1 tree1 one s2 tree2 two r) where
         compared : differ-from 1 (getD (all-values root1) (getD ks k 0) []) (getD (all-values root2) k []) ≡ lowest r
         compared =
-            let t = payment-there a o g in
-            let u = payment-there b k h in
+            let p = payment-there a o g in
+            let q = payment-there b k h in
             ap (λ (y : ℕ). differ-from 1 (getD (all-values root1) y []) (getD (all-values root2) k [])) (sym e)
-            ∙ rw (t .values, u .values)
-            (sym (c (omega (arith, a .few)) (omega (arith, a .few)) (t .it) (u .it) (t .at) (t .amount) (u .at) (u .amount)))
+            ∙ rw (p .values, q .values)
+            (sym (c (p .it) (q .it) w (x s1 (p .it) few (p .at) (p .amount)) (y s2 (q .it) (omega (arith, a .few)) (q .at) (q .amount))))
 
         pub answers-20 : {field : ℕ} → r ≡ Differs field → answered 20 k field ≡ pairing (all-values root1) 0 [] ks (all-values root2)
         unfolding lowest
-        answers-20 d =
+        answers-20 z =
             sym (far .from-here
-            ∙ fields-differ (all-values root1) k (far .named) ks (all-values root2) in-list in-second in-first not-named (compared ∙ ap lowest d))
+            ∙ fields-differ (all-values root1) k (far .named) ks (all-values root2) in-list in-second in-first (is-named ∙ t) (compared ∙ ap lowest z))
 
-        pub goes-on : r ≡ Same → length marks ≡ 64 → SoFar (all-values root1) (all-values root2) ks (set marks o 1) (k + 1)
+        pub goes-on : r ≡ Same → SoFar (all-values root1) (all-values root2) ks after (k + 1)
         unfolding lowest
-        goes-on d w =
+        goes-on z =
             record {
+              long = ap length (m few .1) ∙ (length-set marks o 1 ∙ far .long);
               named = getD ks k 0 ∷ far .named;
-              marked = rw (← e) (mark-more (far .named) marks o (far .marked) (omega (arith, a .few)));
+              marked = rw (m few .1, ← e) (mark-more (far .named) marks o (far .marked) (omega (arith, few, far .long)));
               from-here =
                   far .from-here
-                  ∙ pair-agrees (all-values root1) k (far .named) ks (all-values root2) in-list in-second in-first not-named (compared ∙ ap lowest d)
+                  ∙ pair-agrees (all-values root1) k (far .named) ks (all-values root2) in-list in-second in-first (is-named ∙ t) (compared ∙ ap lowest z)
                   ∙ moved (omega arith);
             }
           where

@@ -3,6 +3,8 @@ use move_lists::Listed;
 use move_pairs::Paired;
 use paper::Regrouping;
 use paper::Verdict;
+use rule_limits::Order;
+use tree::Tree;
 ghost use mathlib.Core.Path.{_≡_};
 ghost use Rattle.paper.specs.Form.{Element};
 ghost use Rattle.paper.specs.Rows.{rows};
@@ -27,12 +29,12 @@ fn paired_as(paired: Paired) -> Regrouping
 // 15, 16, 17, and then each pair.
 fn listed(
     first: &[u8],
-    tree1: &[u16],
-    order1: &[u16],
+    tree1: &Tree,
+    order1: &Order,
     many1: usize,
     second: &[u8],
-    tree2: &[u16],
-    order2: &[u16],
+    tree2: &Tree,
+    order2: &Order,
     many2: usize,
     list: &[u8],
 ) -> Regrouping
@@ -58,8 +60,8 @@ fn listed(
 // The second message's refusal, and what follows.
 fn with_second(
     first: &[u8],
-    tree1: &[u16],
-    order1: &[u16],
+    tree1: &Tree,
+    order1: &Order,
     many1: usize,
     second: &[u8],
     list: &[u8],
@@ -67,7 +69,7 @@ fn with_second(
     ensures { λ r. ⌜ ((root1 : Element) → InOrder (now (first .entry)) (now (tree1 .entry)) (now (order1 .entry)) many1 root1
         → regrouping-says r ≡ of-outcomes (accepted-with root1) (outcome-alone rows (now (second .entry))) (now (list .entry))) ⌝ }
 {
-    let mut tree2 = [0u16; 54615];
+    let mut tree2 = [0u16; 28200];
     let mut order2 = [0u16; 208];
     let found = verdict_stages::outcome(second, &mut tree2, &mut order2);
     match found {
@@ -96,7 +98,7 @@ fn with_second(
 pub fn regroup(first: &[u8], second: &[u8], list: &[u8]) -> Regrouping
     ensures { λ r. ⌜ RegroupPromise (now (first .entry)) (now (second .entry)) (now (list .entry)) r ⌝ }
 {
-    let mut tree1 = [0u16; 54615];
+    let mut tree1 = [0u16; 28200];
     let mut order1 = [0u16; 208];
     let found = verdict_stages::outcome(first, &mut tree1, &mut order1);
     match found {

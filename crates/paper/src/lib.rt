@@ -1,5 +1,14 @@
 // The rules (docs/RULES.md) as definitions (specs/). The enums of the answers stand here; specs/Answers.antt gives the paper's numbers for each of their cases.
 
+// Sizes (specs/Sizes.antt): the bytes of the largest message, the numbers of the least table, the most blocks and payments.
+pub const LARGEST_MESSAGE: usize = 32768;
+
+pub const LEAST_TABLE: usize = 1024;
+
+pub const MOST_BLOCKS: usize = 16;
+
+pub const MOST_PAYMENTS: usize = 64;
+
 // Why a message is refused.
 pub enum Fault {
     TableTooShort,

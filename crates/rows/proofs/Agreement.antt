@@ -5,10 +5,10 @@ use mathlib.Core.Bool.{Bool}
 use mathlib.Core.Path.{_≡_, sym, _∙_}
 use Rattle.paper.specs.Form.{Element}
 use Rattle.paper.specs.declared.Finding.{Finding}
-use Rattle.tree.specs.Laid.{Laid}
+use Rattle.tree.specs.Laid.{LaidAt}
 use Rattle.verdict_answers.proofs.Agreement.{one-finding}
 use Rattle.rows.specs.Walk.{WalkPromise}
 
 pub answers-agree : (s tree : List ℕ) (judging : Bool) (f g : Finding) → WalkPromise s tree judging f → WalkPromise s tree judging g
-    → (root : Element) (next : ℕ) → Laid s tree root 0 next → f ≡ g
-answers-agree s tree judging f g p q root next l = one-finding f g (p root next l ∙ sym (q root next l))
+    → (root : Element) → LaidAt s tree 0 root → f ≡ g
+answers-agree s tree judging f g p q root l = one-finding f g (p root l ∙ sym (q root l))

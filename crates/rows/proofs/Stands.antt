@@ -1,25 +1,25 @@
--- Numbers stand for a profile where a computed test says so; and those of the rows do.
-use Prim.Native.Nat.{ℕ, zero, suc, _+_, _*_, _-_, _<_, _≤_}
+-- Numbers stand for a profile where a computed test says so; and what the walk from the root then promises.
+use Prim.Native.Nat.{ℕ, zero, suc, _+_, _-_, _<_, _≤_}
 use mathlib.Core.List.{List, [], _∷_, map}
 use mathlib.Core.Bool.{Bool, true, false}
-use mathlib.Core.Path.{_≡_, refl, ap, _∙_}
+use mathlib.Core.Path.{_≡_, refl, sym, ap, _∙_}
 use native.Mathlib.Omega.{arith}
 use lib.Dec.{eqb, ltb}
-use lib.ListN.{length, List·getD-eq-default}
 use borrow.Author.Tests.{eqb-true, eqb-false, ltb-true, ltb-false}
-use Rattle.paper.specs.Bytes.{bytes}
-use Rattle.paper.specs.Rows.{Row, row-of, rows, name-in, name, leaf, group, group-under}
+use Rattle.paper.specs.Bytes.{bytes, same}
+use Rattle.paper.specs.Rows.{Row, row-of, rows as the-rows, name-in, name, leaf, group, group-under}
 use Rattle.paper.specs.Form.{Element}
 use Rattle.paper.specs.Refusals.{walk, rows-refusal, values-refusal}
-use Rattle.paper.specs.Answers.{refusal-found}
 use Rattle.paper.specs.declared.Finding.{Finding}
-use Rattle.tree.specs.Laid.{Laid}
+use Rattle.form_names.specs.Names.{number-in, name-number, is-row}
+use Rattle.rows_places.specs.Numbers.{number-at, of-entry, of-place, of-kind, place-at, places-from, places-between, places-of, holds-at, row-at, StandsFor, Stands}
+use Rattle.rows_places.proofs.Places.{no-line}
 use Rattle.rows_contents.specs.Judged.{judgement}
-use Rattle.rows.specs.Walk.{refusal-by, Walks}
-use Rattle.rows_places.specs.Numbers.{of-entry, of-place, of-kind, place-at, places-from, places-between, holds-at, name-at, row-at, Stands}
+use Rattle.rows.specs.Profile.{entry-of, place-numbers, places-under, places-in, entries, entries-of}
+use Rattle.rows.specs.Walk.{refusal-by, Walks, WalkPromise}
 
 -- two functions that agree below n, by one equation of lists
-upto : ℕ → List ℕ
+unfoldable pub upto : ℕ → List ℕ
 upto zero = []
 upto (suc n) = n ∷ upto n
 
@@ -38,192 +38,71 @@ agree {A} f g (suc n) e i h = go (eqb i n) refl (λ below. agree f g n tail i be
     go true p below = let q : i ≡ n = eqb-true i n p in rw q head
     go false p below = below (omega (arith, eqb-false i n p))
 
--- The test, over any profile and any numbers, of so many entries.
-module _ (profile : List Row) (names numbers places : List ℕ) (entries : ℕ) where
-  -- where the places of entry e start, and how many there are
-  abbrev start : ℕ → ℕ
-  start e = of-entry numbers e 5
+module _ (profile : List Row) (rows places : List (List ℕ)) where
+  -- Of entry d under a parent: whether it is a row, which, and the number of its name; as it must be, and as it is.
+  abbrev wanted : (parent d : ℕ) → Bool × Row × ℕ
+  wanted parent d = (true, row-of profile parent (of-entry rows d 0), name-number (name (of-entry rows d 0)))
 
+  abbrev said : ℕ → Bool × Row × ℕ
+  said d = (is-row (of-entry rows d 0), row-at rows places d, of-entry rows d 2)
+
+  -- how many places an entry has
   abbrev many : ℕ → ℕ
-  many e = of-entry numbers e 6 - of-entry numbers e 5
+  many e = of-entry rows e 5 - of-entry rows e 4
 
-  -- the first entry at a place of entry e, or the second: as the profile has that row, and as the numbers have it
+  -- The test of the first entries at all places of all entries (k is 1), or of the second (2).
   module _ (k : ℕ) where
-    abbrev in-table : (e p : ℕ) → Row
-    in-table e p = row-of profile (of-entry numbers e 0) (of-entry numbers (of-place places p k) 0)
+    abbrev there : (e j : ℕ) → ℕ
+    there e j = of-place places (of-entry rows e 4 + j) k
 
-    abbrev in-numbers : ℕ → Row
-    in-numbers p = row-at names numbers places (of-place places p k)
+    unfoldable pub Agree : Type 0
+    Agree =
+        map (λ e. map (λ j. wanted (of-entry rows e 0) (there e j)) (upto (many e))) (upto 56) ≡
+        map (λ e. map (λ j. said (there e j)) (upto (many e))) (upto 56)
 
-    Rows-agree : Type 0
-    Rows-agree =
-        map (λ e. map (λ j. in-table e (start e + j)) (upto (many e))) (upto entries) ≡
-        map (λ e. map (λ j. in-numbers (start e + j)) (upto (many e))) (upto entries)
-
-    no-entry : (e : ℕ) → length numbers ≤ entries * 7 → entries ≤ e → of-entry numbers e 6 ≡ 0
-    no-entry e few h = List·getD-eq-default numbers 0 {n = e * 7 + 6} (omega arith)
-
-    rows-agree : length numbers ≤ entries * 7 → Rows-agree → (e p : ℕ) → of-entry numbers e 5 ≤ p → p < of-entry numbers e 6 → in-table e p ≡ in-numbers p
-    unfolding Rows-agree
-    rows-agree few test e p low high = go (ltb e entries) refl
+    stand : Agree → (e p : ℕ) → of-entry rows e 4 ≤ p → p < of-entry rows e 5 → StandsFor profile rows places (of-entry rows e 0) (of-place places p k)
+    unfolding Agree
+    stand test e p low high = go (ltb e 56) refl
       where
-        there : start e + (p - start e) ≡ p
-        there = omega arith
+        at-p : of-entry rows e 4 + (p - of-entry rows e 4) ≡ p
+        at-p = omega arith
 
-        go : (b : Bool) → ltb e entries ≡ b → in-table e p ≡ in-numbers p
+        go : (b : Bool) → ltb e 56 ≡ b → StandsFor profile rows places (of-entry rows e 0) (of-place places p k)
         go true q =
-            let inner = agree (λ d. map (λ j. in-table d (start d + j)) (upto (many d))) (λ d. map (λ j. in-numbers (start d + j)) (upto (many d)))
-            entries test e (ltb-true e entries q) in
-            rw there at (agree (λ j. in-table e (start e + j)) (λ j. in-numbers (start e + j)) (many e) inner (p - start e) (omega arith))
-        go false q = absurd (omega (arith, no-entry e few (ltb-false e entries q)))
+            let inner = agree (λ d. map (λ j. wanted (of-entry rows d 0) (there d j)) (upto (many d))) (λ d. map (λ j. said (there d j)) (upto (many d))) 56 test e (ltb-true e 56 q) in
+            let same-there = agree (λ j. wanted (of-entry rows e 0) (there e j)) (λ j. said (there e j)) (many e) inner (p - of-entry rows e 4) (omega arith) in
+            let here : wanted (of-entry rows e 0) (of-place places p k) ≡ said (of-place places p k) = rw at-p at same-there in
+            record { row-there = sym (ap (λ x. x .0) here); row-is = ap (λ x. x .1) here; name-number-is = sym (ap (λ x. x .2) here) }
+        go false q = absurd (omega (arith, no-line 56 6 rows e 5 (ltb-false e 56 q)))
 
-  -- the name of entry e, and of its row
-  Names-agree : Type 0
-  Names-agree = map (λ e. name (of-entry numbers e 0)) (upto entries) ≡ map (λ e. name-at names numbers e) (upto entries)
+  pub record Tested : Type 0 where
+    pub root-agrees : row-at rows places 0 ≡ row-of profile 0 1
+    pub first-agree : Agree 1
+    pub second-agree : Agree 2
 
-  names-agree : length numbers ≤ entries * 7 → Names-agree → (e : ℕ) → name (of-entry numbers e 0) ≡ name-at names numbers e
-  unfolding Names-agree name name-in rows leaf group group-under
-  names-agree few test e = go (ltb e entries) refl
-    where
-      go : (b : Bool) → ltb e entries ≡ b → name (of-entry numbers e 0) ≡ name-at names numbers e
-      go true q = agree (λ d. name (of-entry numbers d 0)) (λ d. name-at names numbers d) entries test e (ltb-true e entries q)
-      go false q =
-          let past : entries ≤ e = ltb-false e entries q in
-          let zeroth : of-entry numbers e 0 ≡ 0 = List·getD-eq-default numbers 0 {n = e * 7 + 0} (omega arith) in
-          let second : of-entry numbers e 2 ≡ 0 = List·getD-eq-default numbers 0 {n = e * 7 + 2} (omega arith) in
-          let third : of-entry numbers e 3 ≡ 0 = List·getD-eq-default numbers 0 {n = e * 7 + 3} (omega arith) in
-          rw (zeroth, second, third)
+  pub by-test : Tested → Stands profile rows places
+  by-test t = record { root-is = t .root-agrees; first-stands = stand 1 (t .first-agree); second-stands = stand 2 (t .second-agree) }
 
-  record Tested : Type 0 where
-    few : length numbers ≤ entries * 7
-    root-agrees : row-at names numbers places 0 ≡ row-of profile 0 1
-    first-agree : Rows-agree 1
-    second-agree : Rows-agree 2
-    named-agree : Names-agree
+-- those of the rows
+tested : Tested the-rows (entries-of the-rows) (places-in the-rows)
+unfolding upto Agree number-at of-kind place-at places-from places-between places-of holds-at row-at row-of the-rows leaf group group-under bytes same name-in name number-in name-number is-row entry-of place-numbers places-under places-in entries entries-of
+tested = record { root-agrees = refl; first-agree = refl; second-agree = refl }
 
-  by-test : Tested → Stands profile names numbers places
-  by-test t =
-      record {
-        root-is = t .root-agrees;
-        first-is = rows-agree 1 (t .few) (t .first-agree);
-        second-is = rows-agree 2 (t .few) (t .second-agree);
-        named = names-agree (t .few) (t .named-agree);
-      }
-
--- The numbers of the rows.
-unfoldable pub row-names : List ℕ
-row-names = bytes "DocumentCstmrCdtTrfInitnGrpHdrMsgIdCreDtTmNbOfTxsCtrlSumInitgPtyNmPmtInfPmtInfIdPmtMtdBtchBookgPmtTpInfInstrPrtySvcLvlCdCtgyPurpReqdExctnDtDtDbtrDbtrAcctIdIBANDbtrAgtFinInstnIdBICFIOthrUltmtDbtrChrgBrCdtTrfTxInfPmtIdInstrIdEndToEndIdAmtInstdAmtCdtrAgtCdtrCdtrAcctUltmtCdtrPurpRmtInfUstrdStrdCdtrRefInfTpCdOrPrtryIssrRef"
-
-unfoldable pub row-numbers : List ℕ
-row-numbers =
-    1 ∷ 0 ∷ 0 ∷ 8 ∷ 0 ∷ 0 ∷ 1 ∷
-    2 ∷ 0 ∷ 8 ∷ 24 ∷ 0 ∷ 1 ∷ 3 ∷
-    3 ∷ 0 ∷ 24 ∷ 30 ∷ 0 ∷ 3 ∷ 8 ∷
-    4 ∷ 0 ∷ 30 ∷ 35 ∷ 35 ∷ 0 ∷ 0 ∷
-    5 ∷ 0 ∷ 35 ∷ 42 ∷ 19 ∷ 0 ∷ 0 ∷
-    6 ∷ 0 ∷ 42 ∷ 49 ∷ 15 ∷ 0 ∷ 0 ∷
-    7 ∷ 0 ∷ 49 ∷ 56 ∷ 18 ∷ 0 ∷ 0 ∷
-    8 ∷ 0 ∷ 56 ∷ 64 ∷ 0 ∷ 8 ∷ 9 ∷
-    9 ∷ 0 ∷ 64 ∷ 66 ∷ 70 ∷ 0 ∷ 0 ∷
-    10 ∷ 0 ∷ 66 ∷ 72 ∷ 0 ∷ 9 ∷ 22 ∷
-    11 ∷ 0 ∷ 72 ∷ 80 ∷ 35 ∷ 0 ∷ 0 ∷
-    12 ∷ 0 ∷ 80 ∷ 86 ∷ 3 ∷ 0 ∷ 0 ∷
-    13 ∷ 0 ∷ 86 ∷ 95 ∷ 5 ∷ 0 ∷ 0 ∷
-    14 ∷ 0 ∷ 42 ∷ 49 ∷ 15 ∷ 0 ∷ 0 ∷
-    15 ∷ 0 ∷ 49 ∷ 56 ∷ 18 ∷ 0 ∷ 0 ∷
-    16 ∷ 0 ∷ 95 ∷ 103 ∷ 0 ∷ 22 ∷ 25 ∷
-    17 ∷ 0 ∷ 103 ∷ 112 ∷ 4 ∷ 0 ∷ 0 ∷
-    18 ∷ 0 ∷ 112 ∷ 118 ∷ 0 ∷ 25 ∷ 26 ∷
-    19 ∷ 0 ∷ 118 ∷ 120 ∷ 4 ∷ 0 ∷ 0 ∷
-    20 ∷ 0 ∷ 120 ∷ 128 ∷ 0 ∷ 26 ∷ 27 ∷
-    21 ∷ 0 ∷ 118 ∷ 120 ∷ 4 ∷ 0 ∷ 0 ∷
-    22 ∷ 0 ∷ 128 ∷ 139 ∷ 0 ∷ 27 ∷ 28 ∷
-    23 ∷ 0 ∷ 139 ∷ 141 ∷ 10 ∷ 0 ∷ 0 ∷
-    24 ∷ 0 ∷ 141 ∷ 145 ∷ 0 ∷ 28 ∷ 29 ∷
-    25 ∷ 0 ∷ 64 ∷ 66 ∷ 70 ∷ 0 ∷ 0 ∷
-    26 ∷ 0 ∷ 145 ∷ 153 ∷ 0 ∷ 29 ∷ 30 ∷
-    27 ∷ 0 ∷ 153 ∷ 155 ∷ 0 ∷ 30 ∷ 31 ∷
-    28 ∷ 0 ∷ 155 ∷ 159 ∷ 34 ∷ 0 ∷ 0 ∷
-    29 ∷ 0 ∷ 159 ∷ 166 ∷ 0 ∷ 31 ∷ 32 ∷
-    30 ∷ 29 ∷ 166 ∷ 176 ∷ 0 ∷ 32 ∷ 33 ∷
-    31 ∷ 0 ∷ 176 ∷ 181 ∷ 11 ∷ 0 ∷ 0 ∷
-    32 ∷ 0 ∷ 181 ∷ 185 ∷ 0 ∷ 33 ∷ 34 ∷
-    33 ∷ 0 ∷ 153 ∷ 155 ∷ 35 ∷ 0 ∷ 0 ∷
-    34 ∷ 0 ∷ 185 ∷ 194 ∷ 0 ∷ 34 ∷ 35 ∷
-    35 ∷ 0 ∷ 64 ∷ 66 ∷ 70 ∷ 0 ∷ 0 ∷
-    36 ∷ 0 ∷ 194 ∷ 200 ∷ 4 ∷ 0 ∷ 0 ∷
-    37 ∷ 0 ∷ 200 ∷ 211 ∷ 0 ∷ 35 ∷ 46 ∷
-    38 ∷ 0 ∷ 211 ∷ 216 ∷ 0 ∷ 46 ∷ 48 ∷
-    39 ∷ 0 ∷ 216 ∷ 223 ∷ 35 ∷ 0 ∷ 0 ∷
-    40 ∷ 0 ∷ 223 ∷ 233 ∷ 35 ∷ 0 ∷ 0 ∷
-    41 ∷ 0 ∷ 233 ∷ 236 ∷ 0 ∷ 48 ∷ 49 ∷
-    42 ∷ 0 ∷ 236 ∷ 244 ∷ 18 ∷ 0 ∷ 0 ∷
-    43 ∷ 0 ∷ 244 ∷ 251 ∷ 0 ∷ 49 ∷ 50 ∷
-    30 ∷ 43 ∷ 166 ∷ 176 ∷ 0 ∷ 50 ∷ 51 ∷
-    44 ∷ 0 ∷ 251 ∷ 255 ∷ 0 ∷ 51 ∷ 52 ∷
-    45 ∷ 0 ∷ 255 ∷ 263 ∷ 0 ∷ 52 ∷ 53 ∷
-    46 ∷ 0 ∷ 263 ∷ 272 ∷ 0 ∷ 53 ∷ 54 ∷
-    47 ∷ 0 ∷ 272 ∷ 276 ∷ 0 ∷ 54 ∷ 55 ∷
-    48 ∷ 0 ∷ 276 ∷ 282 ∷ 0 ∷ 55 ∷ 56 ∷
-    49 ∷ 0 ∷ 282 ∷ 287 ∷ 140 ∷ 0 ∷ 0 ∷
-    50 ∷ 0 ∷ 287 ∷ 291 ∷ 0 ∷ 56 ∷ 57 ∷
-    51 ∷ 0 ∷ 291 ∷ 301 ∷ 0 ∷ 57 ∷ 59 ∷
-    52 ∷ 0 ∷ 301 ∷ 303 ∷ 0 ∷ 59 ∷ 61 ∷
-    53 ∷ 0 ∷ 303 ∷ 312 ∷ 0 ∷ 61 ∷ 62 ∷
-    54 ∷ 0 ∷ 312 ∷ 316 ∷ 35 ∷ 0 ∷ 0 ∷
-    55 ∷ 0 ∷ 316 ∷ 319 ∷ 35 ∷ 0 ∷ 0 ∷ []
-
-unfoldable pub row-places : List ℕ
-row-places =
-    0 ∷ 1 ∷ 1 ∷
-    0 ∷ 2 ∷ 2 ∷ 2 ∷ 9 ∷ 9 ∷
-    0 ∷ 3 ∷ 3 ∷ 0 ∷ 4 ∷ 4 ∷ 0 ∷ 5 ∷ 5 ∷ 0 ∷ 6 ∷ 6 ∷ 0 ∷ 7 ∷ 7 ∷
-    0 ∷ 8 ∷ 8 ∷
-    0 ∷ 10 ∷ 10 ∷ 0 ∷ 11 ∷ 11 ∷ 1 ∷ 12 ∷ 12 ∷ 0 ∷ 13 ∷ 13 ∷ 0 ∷ 14 ∷ 14 ∷ 1 ∷ 15 ∷ 15 ∷ 0 ∷ 21 ∷ 21 ∷ 0 ∷ 23 ∷ 23 ∷ 0 ∷ 25 ∷ 25 ∷ 0 ∷ 28 ∷ 28 ∷ 1 ∷ 33 ∷ 33 ∷ 1 ∷ 35 ∷ 35 ∷ 2 ∷ 36 ∷ 36 ∷
-    1 ∷ 16 ∷ 16 ∷ 0 ∷ 17 ∷ 17 ∷ 1 ∷ 19 ∷ 19 ∷
-    0 ∷ 18 ∷ 18 ∷
-    0 ∷ 20 ∷ 20 ∷
-    0 ∷ 22 ∷ 22 ∷
-    0 ∷ 24 ∷ 24 ∷
-    0 ∷ 26 ∷ 26 ∷
-    0 ∷ 27 ∷ 27 ∷
-    0 ∷ 29 ∷ 29 ∷
-    3 ∷ 30 ∷ 31 ∷
-    0 ∷ 32 ∷ 32 ∷
-    0 ∷ 34 ∷ 34 ∷
-    0 ∷ 37 ∷ 37 ∷ 1 ∷ 15 ∷ 15 ∷ 0 ∷ 40 ∷ 40 ∷ 1 ∷ 35 ∷ 35 ∷ 1 ∷ 33 ∷ 33 ∷ 1 ∷ 42 ∷ 42 ∷ 0 ∷ 44 ∷ 44 ∷ 0 ∷ 45 ∷ 45 ∷ 1 ∷ 46 ∷ 46 ∷ 1 ∷ 47 ∷ 47 ∷ 1 ∷ 48 ∷ 48 ∷
-    1 ∷ 38 ∷ 38 ∷ 0 ∷ 39 ∷ 39 ∷
-    0 ∷ 41 ∷ 41 ∷
-    0 ∷ 43 ∷ 43 ∷
-    0 ∷ 30 ∷ 30 ∷
-    0 ∷ 24 ∷ 24 ∷
-    0 ∷ 26 ∷ 26 ∷
-    0 ∷ 34 ∷ 34 ∷
-    0 ∷ 20 ∷ 20 ∷
-    3 ∷ 49 ∷ 50 ∷
-    0 ∷ 51 ∷ 51 ∷
-    0 ∷ 52 ∷ 52 ∷ 0 ∷ 55 ∷ 55 ∷
-    0 ∷ 53 ∷ 53 ∷ 1 ∷ 54 ∷ 54 ∷
-    0 ∷ 18 ∷ 18 ∷ []
-
-tested : Tested rows row-names row-numbers row-places 56
-unfolding Rows-agree Names-agree name name-in upto row-names row-numbers row-places row-of rows leaf group group-under bytes row-at holds-at places-between places-from place-at of-kind
-tested = record { few = omega arith; root-agrees = refl; first-agree = refl; second-agree = refl; named-agree = refl }
-
-pub rules-rows : Stands rows row-names row-numbers row-places
-rules-rows = by-test rows row-names row-numbers row-places 56 tested
+rows-stand : Stands the-rows (entries-of the-rows) (places-in the-rows)
+rows-stand = by-test the-rows (entries-of the-rows) (places-in the-rows) tested
 
 -- the walk over the rows from the root
-from-root : (judging : Bool) (root : Element) → walk rows (judgement judging) root 0 (row-of rows 0 1) ≡ refusal-by judging rows root
+from-root : (judging : Bool) (root : Element) → walk the-rows (judgement judging) root 0 (row-of the-rows 0 1) ≡ refusal-by judging the-rows root
 unfolding judgement refusal-by rows-refusal values-refusal
 from-root true root = refl
 from-root false root = refl
 
-not-an-amount : {A : Type 0} → of-entry row-numbers 0 0 ≡ 42 → A
-unfolding row-numbers
-not-an-amount e = absurd (omega arith)
+not-an-amount : {A : Type 0} → of-entry (entries-of the-rows) 0 0 ≡ 42 → A
+unfolding number-at entries-of entries the-rows leaf group group-under
+not-an-amount e = absurd (omega (arith, e))
 
-pub whole-walk : (s tree : List ℕ) (judging : Bool) (f : Finding) → Walks s tree row-names row-numbers row-places judging 0 0 0 f
-    → (root : Element) (next : ℕ) → Laid s tree root 0 next → refusal-found f ≡ refusal-by judging rows root
-whole-walk s tree judging f w root next l =
-    w rows rules-rows root next l not-an-amount ∙ ap (λ (r : Row). walk rows (judgement judging) root 0 r) (rules-rows .root-is) ∙ from-root judging root
+pub whole-walk : (s tree : List ℕ) {rows places : List (List ℕ)} (judging : Bool) (f : Finding) → rows ≡ entries-of the-rows → places ≡ places-in the-rows
+    → Walks s tree rows places judging 0 0 0 f → WalkPromise s tree judging f
+whole-walk s tree judging f p q w root l =
+    let walks : Walks s tree (entries-of the-rows) (places-in the-rows) judging 0 0 0 f = rw (p, q) at w in
+    walks the-rows rows-stand root (l .next) (l .laid) not-an-amount ∙ ap (λ (r : Row). walk the-rows (judgement judging) root 0 r) (rows-stand .root-is) ∙ from-root judging root

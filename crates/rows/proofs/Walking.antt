@@ -10,33 +10,35 @@ use Rattle.paper.specs.Bytes.{bytes}
 use Rattle.paper.specs.Form.{Head, Element, Elements, holding-text, holding-elements, []ᵉ, _∷ᵉ_}
 use Rattle.paper.specs.Rows.{name, name-in, rows as the-rows, leaf, group, group-under, Place, Contents, text, elements, Row, row-of, head-of, longest-of}
 use Rattle.paper.specs.Refusals.{Refusal, refuse, _or-else_, ends, only-white, first-at, Sought, never, early, found, seek, Left, from-here, walk, walk-all}
-use Rattle.paper.specs.Answers.{refusal-found}
+use Rattle.paper.specs.Answers.{refusal-found, refusal-of, numbered}
 use Rattle.paper.specs.declared.Finding.{Finding}
 use Rattle.paper.specs.declared.Finding.the-variants.{Nothing, Refused}
 use Rattle.paper.specs.declared.Fault.{Fault}
+use Rattle.paper.specs.declared.Fault.the-variants.{NotAllowedThere}
 use Rattle.paper.proofs.Laws.{false-not-true}
 use Rattle.tree.specs.Laid.{between, Entry, Laid, laid-text, laid-elements, LaidAll, laid-none, laid-more}
-use Rattle.tree.proofs.Laws.{Cell, at-cell, next-cell, entry-of}
-use Rattle.rows_places.specs.Numbers.{of-entry, places-between, places-left, holds-at, row-at, Stands}
-use Rattle.rows_places.specs.Seek.{ResolvedBetween, Seeks}
-use Rattle.rows_contents.specs.Judged.{judgement}
+use Rattle.tree.proofs.Laws.{Cell, at-cell, close-cell, next-cell, entry-of}
+use Rattle.rows_places.specs.Numbers.{of-entry, places-left, places-of, holds-at, row-at, Stands}
+use Rattle.rows_places.specs.Seek.{ResolvedBetween, Seeks, SeekPromise}
+use Rattle.rows_contents.specs.Judged.{judgement, Judged}
+use Rattle.rows.specs.Walk.{unless-found, Walks, WalksAll}
 use Rattle.rows_places.specs.declared.Sought.{Sought as Sought′}
 use Rattle.rows_places.specs.declared.Sought.the-variants as sought
 
 -- what an entry holds
-module _ (rows places : List ℕ) (e : ℕ) where
-  pub holds-places : of-entry rows e 4 ≡ 0 → holds-at rows places e ≡ elements (places-between rows places (of-entry rows e 5) (of-entry rows e 6))
+module _ (rows places : List (List ℕ)) (e : ℕ) where
+  pub holds-places : of-entry rows e 3 ≡ 0 → holds-at rows places e ≡ elements (places-of rows places e)
   unfolding holds-at
   holds-places k = rw (eq-eqb _ _ k)
 
-  pub holds-text : (of-entry rows e 4 ≡ 0 → ⊥) → holds-at rows places e ≡ text (of-entry rows e 4)
+  pub holds-text : (of-entry rows e 3 ≡ 0 → ⊥) → holds-at rows places e ≡ text (of-entry rows e 3)
   unfolding holds-at
   holds-text k = rw (ne-eqb _ _ k)
 
 -- elements one after the other
 pub all-up : {s tree : List ℕ} {ts : Elements} {i next : ℕ} → LaidAll s tree ts i next → i ≤ next
 all-up (laid-none e) = omega arith
-all-up (laid-more one others) = omega (arith, entry-of one .after-it, all-up others)
+all-up (laid-more one others) = omega (arith, entry-of one .numbers .after-it, all-up others)
 
 pub record Sibling (s tree : List ℕ) (ts : Elements) (i next : ℕ) : Type 0 where
   pub one : Element
@@ -52,7 +54,7 @@ sibling (laid-more {t = t} {ts = ts} {middle = m} one others) h = record { one =
 
 pub no-sibling : {s tree : List ℕ} {ts : Elements} {i next : ℕ} → LaidAll s tree ts i next → next ≤ i → ts ≡ []ᵉ
 no-sibling (laid-none e) h = refl
-no-sibling (laid-more one others) h = absurd (omega (arith, entry-of one .after-it, all-up others))
+no-sibling (laid-more one others) h = absurd (omega (arith, entry-of one .numbers .after-it, all-up others))
 
 -- where the first of some elements stands
 pub first-child : (otherwise : ℕ) {s tree : List ℕ} {ts : Elements} {i next at : ℕ} → LaidAll s tree ts i next → i < next → Cell tree i 0 at → at ≡ first-at ts otherwise
@@ -107,154 +109,181 @@ module _ (profile : List Row) (judge : (parent : ℕ) → Row → Head → List 
   unfolding walk
   child-step e = ap (λ (q : Sought). after q) e
 
--- The children that are left, from one on, and the places left for them: the walk goes on with them as it would with all.
-pub record Remaining (profile : List Row) (s tree rows places : List ℕ) (judging : Bool) (row first to : ℕ) (h : Head) (ts : Elements) (next child place : ℕ) (seen : Bool) : Type 0 where
+-- The children of a group as entry e that are left, from one on, and the places left for them: the walk goes on with them as it would with all.
+pub record Remaining (profile : List Row) (s tree : List ℕ) (rows places : List (List ℕ)) (judging : Bool) (e row to : ℕ) (h : Head) (ts : Elements) (next from : ℕ) (seen : Bool)
+    (child : ℕ) : Type 0 where
   pub rest : Elements
   pub laid : LaidAll s tree rest child next
-  pub from-first : first ≤ place
-  pub seen-inside : seen ≡ true → place < to
+  pub from-first : of-entry rows e 4 ≤ from
+  pub seen-inside : seen ≡ true → from < to
   pub goes-on :
-      walk-all profile (judgement judging) ts row (from-here (places-between rows places first to)) (h .close) ≡
-      walk-all profile (judgement judging) rest row (places-left rows places place seen to) (h .close)
+      walk-all profile (judgement judging) ts (of-entry rows e 0) (from-here (places-of rows places e)) (h .close) ≡
+      walk-all profile (judgement judging) rest row (places-left rows places from seen to) (h .close)
 
-pub all-remain : (profile : List Row) {s tree : List ℕ} (rows places : List ℕ) (judging : Bool) (row first to : ℕ) (h : Head) (ts : Elements) {next child : ℕ}
-    → LaidAll s tree ts child next → Remaining profile s tree rows places judging row first to h ts next child first false
-unfolding places-left
-all-remain profile rows places judging row first to h ts l = record { rest = ts; laid = l; from-first = omega arith; seen-inside = λ f. false-not-true f; goes-on = refl }
+-- The walk among the children of element i as entry e, before a child: what the code has read of both, and what remains.
+pub record Among (s tree : List ℕ) (rows places : List (List ℕ)) (judging : Bool) (i e row to next from : ℕ) (seen : Bool) (child : ℕ) : Type 0 where
+  pub child-behind : i < child
+  pub row-is : row ≡ of-entry rows e 0
+  pub to-is : to ≡ of-entry rows e 5
+  pub next-is : Cell tree i 4 next
+  pub remaining : (profile : List Row) → Stands profile rows places → (h : Head) (n : ℕ) → Entry s tree i h n → (ts : Elements) → LaidAll s tree ts (i + 1) n
+      → Remaining profile s tree rows places judging e row to h ts n from seen child
 
--- what an entry says, as the code has read it
-module _ (rows : List ℕ) (e : ℕ) {row first to : ℕ} (row-is : row ≡ of-entry rows e 0) (first-is : first ≡ of-entry rows e 5) (to-is : to ≡ of-entry rows e 6) where
-  pub resolved : {profile : List Row} {names places : List ℕ} → Stands profile names rows places → {place : ℕ} → first ≤ place
-      → ResolvedBetween profile names rows places row place to
-  resolved st h k l m =
-      rw row-is (record { first-is = st .first-is e k (omega arith) (omega arith); second-is = st .second-is e k (omega arith) (omega arith); named = st .named })
+-- before the first child
+pub group-starts : {s tree : List ℕ} {rows places : List (List ℕ)} {judging : Bool} {i e row to next from : ℕ} → row ≡ of-entry rows e 0 → to ≡ of-entry rows e 5
+    → from ≡ of-entry rows e 4 → Cell tree i 4 next → Among s tree rows places judging i e row to next from false (i + 1)
+unfolding places-of places-left
+group-starts p q r c =
+    record {
+      child-behind = omega arith;
+      row-is = p;
+      to-is = q;
+      next-is = c;
+      remaining = λ profile st h n entry ts l.
+          record { rest = ts; laid = l; from-first = omega arith; seen-inside = λ f. false-not-true f; goes-on = rw (p, q, r) };
+    }
 
-  pub as-read : (profile : List Row) (judge : (parent : ℕ) → Row → Head → List ℕ → Option Refusal) (places : List ℕ) (ts : Elements) (close : ℕ) {o : Option Refusal}
-      → o ≡ walk-all profile judge ts row (from-here (places-between rows places first to)) close
-      → o ≡ walk-all profile judge ts (of-entry rows e 0) (from-here (places-between rows places (of-entry rows e 5) (of-entry rows e 6))) close
-  as-read profile judge places ts close w = rw (row-is, first-is, to-is) at w
+-- one child
+module _ {s tree : List ℕ} {rows places : List (List ℕ)} {judging : Bool} {i e row to next from : ℕ} {seen : Bool} {child : ℕ}
+    (among : Among s tree rows places judging i e row to next from seen child) (inside : child < next) where
+  module _ {profile : List Row} (st : Stands profile rows places) {h : Head} {n : ℕ} (entry : Entry s tree i h n) {ts : Elements} (l : LaidAll s tree ts (i + 1) n) where
+    abbrev left : Remaining profile s tree rows places judging e row to h ts n from seen child
+    left = among .remaining profile st h n entry ts l
 
-module _ {profile : List Row} {s tree rows places : List ℕ} {judging : Bool} {row first to : ℕ} {h : Head} {ts : Elements} {next child place : ℕ} {seen : Bool}
-    (left : Remaining profile s tree rows places judging row first to h ts next child place seen) (inside : child < next) where
-  abbrev pub it : Sibling s tree (left .rest) child next
-  it = sibling (left .laid) inside
+    abbrev it : Sibling s tree (left .rest) child n
+    it = sibling (left .laid) (omega (arith, next-cell entry (among .next-is), inside))
 
-  pub child-entry : Entry s tree child (head-of (it .one)) (it .middle)
-  child-entry = entry-of (it .laid)
+    child-entry : Entry s tree child (head-of (it .one)) (it .middle)
+    child-entry = entry-of (it .laid)
 
-  pub child-after : {after : ℕ} → Cell tree child 4 after → child < after
-  child-after c = omega (arith, next-cell child-entry c, child-entry .after-it)
+    with-it : {q : Sought} → seek (places-left rows places from seen to) (head-of (it .one) .name) ≡ q
+        → walk-all profile (judgement judging) ts (of-entry rows e 0) (from-here (places-of rows places e)) (h .close)
+        ≡ after profile (judgement judging) (it .one) (it .others) row (places-left rows places from seen to) (h .close) q
+    with-it q =
+        left .goes-on ∙ ap (λ (us : Elements). walk-all profile (judgement judging) us row (places-left rows places from seen to) (h .close)) (it .are) ∙
+        child-step profile (judgement judging) (it .one) (it .others) row (places-left rows places from seen to) (h .close) q
 
-  with-it : {q : Sought} → seek (places-left rows places place seen to) (head-of (it .one) .name) ≡ q
-      → walk-all profile (judgement judging) ts row (from-here (places-between rows places first to)) (h .close)
-      ≡ after profile (judgement judging) (it .one) (it .others) row (places-left rows places place seen to) (h .close) q
-  with-it e =
-      left .goes-on ∙ ap (λ (us : Elements). walk-all profile (judgement judging) us row (places-left rows places place seen to) (h .close)) (it .are) ∙
-      child-step profile (judgement judging) (it .one) (it .others) row (places-left rows places place seen to) (h .close) e
+    resolved : ResolvedBetween profile rows places row from to
+    resolved k low high =
+        let start : of-entry rows e 4 ≤ k = omega (arith, left .from-first, low) in
+        let end : k < of-entry rows e 5 = omega (arith, among .to-is, high) in
+        rw (among .row-is) (record { first-stands = st .first-stands e k start end; second-stands = st .second-stands e k start end })
 
-  module _ (names : List ℕ) (q : Sought′) (seeks : Seeks profile names rows places row (head-of (it .one) .name) (places-left rows places place seen to) place to q) where
-    pub child-never : {at : ℕ} → q ≡ sought.Never → Cell tree child 0 at
-        → refuse 3 row at ≡ walk-all profile (judgement judging) ts row (from-here (places-between rows places first to)) (h .close)
-    unfolding Seeks
-    child-never e c = rw (at-cell child-entry c) (sym (with-it (rw e at seeks)))
+    module _ (q : Sought′) (seeks : SeekPromise tree rows places child from seen to q) where
+      there : Seeks profile rows places row (head-of (it .one) .name) (places-left rows places from seen to) from to q
+      there = seeks profile row s (head-of (it .one)) (it .middle) resolved (left .seen-inside) child-entry
 
-    pub child-early : {at k : ℕ} → q ≡ sought.Early k → Cell tree child 0 at
-        → refuse 4 k at ≡ walk-all profile (judgement judging) ts row (from-here (places-between rows places first to)) (h .close)
-    unfolding Seeks
-    child-early e c = rw (at-cell child-entry c) (sym (with-it (rw e at seeks)))
+      not-there : {at : ℕ} {o : Option Refusal} → ((d p : ℕ) (m : Bool) → q ≡ sought.Found d p m → ⊥) → Cell tree child 0 at → o ≡ unless-found row at q
+          → o ≡ walk-all profile (judgement judging) ts (of-entry rows e 0) (from-here (places-of rows places e)) (h .close)
+      unfolding Seeks unless-found
+      not-there {at} {o} none-found c f = go q refl there f
+        where
+          go : (r : Sought′) → q ≡ r → Seeks profile rows places row (head-of (it .one) .name) (places-left rows places from seen to) from to r → o ≡ unless-found row at r
+              → o ≡ walk-all profile (judgement judging) ts (of-entry rows e 0) (from-here (places-of rows places e)) (h .close)
+          go sought.Never _ sk g = g ∙ rw (at-cell child-entry c) (sym (with-it sk))
+          go (sought.Early k) _ sk g = g ∙ rw (at-cell child-entry c) (sym (with-it sk))
+          go (sought.Found d p m) r sk g = absurd (none-found d p m r)
 
-    module _ {d p : ℕ} {m : Bool} (e : q ≡ sought.Found d p m) where
-      there : Seeks profile names rows places row (head-of (it .one) .name) (places-left rows places place seen to) place to (sought.Found d p m)
-      there = rw e at seeks
+      module _ {d p : ℕ} {m : Bool} (q-is : q ≡ sought.Found d p m) (f : Finding) (walks : Walks s tree rows places judging row child d f) where
+        found-there : Seeks profile rows places row (head-of (it .one) .name) (places-left rows places from seen to) from to (sought.Found d p m)
+        found-there = rw q-is at there
 
-      place-rises : place ≤ p
-      unfolding Seeks
-      place-rises = there .0
+        rises : of-entry rows e 4 ≤ p
+        unfolding Seeks
+        rises = omega (arith, left .from-first, found-there .0)
 
-      place-inside : m ≡ true → p < to
-      unfolding Seeks
-      place-inside = there .1
+        stays : m ≡ true → p < to
+        unfolding Seeks
+        stays = found-there .1
 
-      pub amount-named : Stands profile names rows places → of-entry rows d 0 ≡ 42 → head-of (it .one) .name ≡ bytes "InstdAmt"
-      unfolding Seeks name name-in the-rows leaf group group-under bytes
-      amount-named st k = there .2 .name-is ∙ sym (st .named d) ∙ ap name k
+        -- row 42 is named InstdAmt
+        amount-named : of-entry rows d 0 ≡ 42 → head-of (it .one) .name ≡ bytes "InstdAmt"
+        unfolding Seeks name name-in the-rows leaf group group-under bytes
+        amount-named k = found-there .2 .name-is ∙ ap name k
 
-      below : (f : Finding) → refusal-found f ≡ walk profile (judgement judging) (it .one) row (row-at names rows places d)
-          → walk-all profile (judgement judging) ts row (from-here (places-between rows places first to)) (h .close)
-          ≡ refusal-found f or-else walk-all profile (judgement judging) (it .others) row (places-left rows places p m to) (h .close)
-      unfolding Seeks
-      below f w =
-          with-it (there .3) ∙
-          ap (λ (r : Row). walk profile (judgement judging) (it .one) row r or-else walk-all profile (judgement judging) (it .others) row (places-left rows places p m to) (h .close))
-          (there .2 .row-is) ∙
-          ap (λ (o : Option Refusal). o or-else walk-all profile (judgement judging) (it .others) row (places-left rows places p m to) (h .close)) (sym w)
+        below : walk-all profile (judgement judging) ts (of-entry rows e 0) (from-here (places-of rows places e)) (h .close)
+            ≡ refusal-found f or-else walk-all profile (judgement judging) (it .others) row (places-left rows places p m to) (h .close)
+        unfolding Seeks
+        below =
+            with-it (found-there .3) ∙
+            ap (λ (r : Row). walk profile (judgement judging) (it .one) row r or-else walk-all profile (judgement judging) (it .others) row (places-left rows places p m to) (h .close))
+            (found-there .2 .row-is) ∙
+            ap (λ (o : Option Refusal). o or-else walk-all profile (judgement judging) (it .others) row (places-left rows places p m to) (h .close))
+            (sym (walks profile st (it .one) (it .middle) (it .laid) amount-named))
 
-      module _ {f : Finding} (w : refusal-found f ≡ walk profile (judgement judging) (it .one) row (row-at names rows places d)) where
-        pub child-refused : {fault : Fault} → f ≡ Refused fault
-            → refusal-found (Refused fault) ≡ walk-all profile (judgement judging) ts row (from-here (places-between rows places first to)) (h .close)
+        refused : {fault : Fault} → f ≡ Refused fault
+            → refusal-found (Refused fault) ≡ walk-all profile (judgement judging) ts (of-entry rows e 0) (from-here (places-of rows places e)) (h .close)
         unfolding refusal-found _or-else_
-        child-refused g = sym (below f w ∙ rw g)
+        refused g = sym (below ∙ rw g)
 
-        pub child-passed : {after : ℕ} → f ≡ Nothing → Cell tree child 4 after
-            → Remaining profile s tree rows places judging row first to h ts next after p m
+        passed : f ≡ Nothing → {after : ℕ} → Cell tree child 4 after → Remaining profile s tree rows places judging e row to h ts n p m after
         unfolding refusal-found _or-else_
-        child-passed g c =
-            record {
-              rest = it .others;
-              laid = rw (next-cell child-entry c) (it .laid-behind);
-              from-first = omega (arith, left .from-first, place-rises);
-              seen-inside = place-inside;
-              goes-on = below f w ∙ rw g;
-            }
+        passed g c =
+            record { rest = it .others; laid = rw (next-cell child-entry c) (it .laid-behind); from-first = rises; seen-inside = stays; goes-on = below ∙ rw g }
 
-pub none-remain : {profile : List Row} {s tree : List ℕ} {rows places : List ℕ} {judging : Bool} {row first to : ℕ} {h : Head} {ts : Elements} {next child place : ℕ} {seen : Bool}
-    → Remaining profile s tree rows places judging row first to h ts next child place seen → next ≤ child → {close : ℕ} → close ≡ h .close
-    → {o : Option Refusal} → o ≡ ends (places-left rows places place seen to) close
-    → o ≡ walk-all profile (judgement judging) ts row (from-here (places-between rows places first to)) (h .close)
+  pub no-way-back : {after : ℕ} → Cell tree child 4 after → after ≤ child → (f : Finding) → WalksAll s tree rows places judging i e f
+  no-way-back c back f profile st h n entry ts l =
+      let e = child-entry st entry l in absurd (omega (arith, next-cell e c, e .numbers .after-it, back))
+
+  module _ (q : Sought′) (seeks : SeekPromise tree rows places child from seen to q) where
+    pub child-not-found : {at : ℕ} → ((d p : ℕ) (m : Bool) → q ≡ sought.Found d p m → ⊥) → Cell tree child 0 at → (f : Finding) → refusal-found f ≡ unless-found row at q
+        → WalksAll s tree rows places judging i e f
+    child-not-found none-found c f u profile st h n entry ts l = not-there st entry l q seeks none-found c u
+
+    module _ {d p : ℕ} {m : Bool} (q-is : q ≡ sought.Found d p m) (f : Finding) (walks : Walks s tree rows places judging row child d f) where
+      pub child-refused : {fault : Fault} → f ≡ Refused fault → WalksAll s tree rows places judging i e (Refused fault)
+      child-refused g profile st h n entry ts l = refused st entry l q seeks q-is f walks g
+
+      pub child-passed : {after : ℕ} → f ≡ Nothing → Cell tree child 4 after → child < after → Among s tree rows places judging i e row to next p m after
+      child-passed g c on =
+          record {
+            child-behind = omega (arith, among .child-behind, on);
+            row-is = among .row-is;
+            to-is = among .to-is;
+            next-is = among .next-is;
+            remaining = λ profile st h n entry ts l. passed st entry l q seeks q-is f walks g c;
+          }
+
+-- behind the last child
+pub group-ends : {s tree : List ℕ} {rows places : List (List ℕ)} {judging : Bool} {i e row to next from : ℕ} {seen : Bool} {child : ℕ}
+    → Among s tree rows places judging i e row to next from seen child → next ≤ child → {close : ℕ} → Cell tree i 3 close
+    → (f : Finding) → refusal-found f ≡ ends (places-left rows places from seen to) close → WalksAll s tree rows places judging i e f
 unfolding walk
-none-remain {judging = judging} left past c e =
-    e ∙ rw c (sym (left .goes-on ∙ rw (no-sibling (left .laid) past)))
+group-ends among past c f g profile st h n entry ts l =
+    let left = among .remaining profile st h n entry ts l in
+    g ∙ rw (close-cell entry c) (sym (left .goes-on ∙ rw (no-sibling (left .laid) (omega (arith, next-cell entry (among .next-is), past)))))
 
 -- element i as entry e, by what the code has read of both
-module _ (profile : List Row) (s tree names rows places : List ℕ) (judging : Bool) (parent i e : ℕ) {row longest following : ℕ} (row-is : row ≡ of-entry rows e 0)
-    (longest-is : longest ≡ of-entry rows e 4) (following-is : Cell tree i 4 following) where
-  pub text-in-group : {t : Element} {next : ℕ} (f : Finding) → following ≤ i + 1 → longest ≡ 0
-      → ((h : Head) (n : ℕ) → Entry s tree i h n → refusal-found f ≡
-      only-white (of-entry rows e 0) (places-between rows places (of-entry rows e 5) (of-entry rows e 6)) h (between (h .start) (h .close) s))
-      → Laid s tree t i next → refusal-found f ≡ walk profile (judgement judging) t parent (row-at names rows places e)
+module _ (s tree : List ℕ) (rows places : List (List ℕ)) (judging : Bool) (parent i e : ℕ) {row longest following : ℕ} (row-is : row ≡ of-entry rows e 0)
+    (longest-is : longest ≡ of-entry rows e 3) (following-is : Cell tree i 4 following) where
+  pub text-in-group : (f : Finding) → following ≤ i + 1 → longest ≡ 0
+      → ((h : Head) (n : ℕ) → Entry s tree i h n → refusal-found f ≡ only-white (of-entry rows e 0) (places-of rows places e) h (between (h .start) (h .close) s))
+      → Walks s tree rows places judging parent i e f
   unfolding row-at
-  text-in-group f short zero-long g (laid-text {h = h} {w = w} entry n w-is) =
-      g h _ entry ∙ ap (only-white (of-entry rows e 0) (places-between rows places (of-entry rows e 5) (of-entry rows e 6)) h) (sym w-is) ∙
-      sym (walk-white profile (judgement judging) parent (row-at names rows places e) h w _ (holds-places rows places e (sym longest-is ∙ zero-long)))
-  text-in-group f short zero-long g (laid-elements entry more all) = absurd (omega (arith, next-cell entry following-is))
+  text-in-group f short none-long g profile st _ next (laid-text {h = h} {w = w} entry n w-is) amount =
+      g h _ entry ∙ ap (only-white (of-entry rows e 0) (places-of rows places e) h) (sym w-is) ∙
+      sym (walk-white profile (judgement judging) parent (row-at rows places e) h w _ (holds-places rows places e (sym longest-is ∙ none-long)))
+  text-in-group f short none-long g profile st _ next (laid-elements entry more all) amount = absurd (omega (arith, next-cell entry following-is))
 
-  pub text-in-leaf : {t : Element} {next : ℕ} (f : Finding) → following ≤ i + 1 → (longest ≡ 0 → ⊥)
-      → ((r : Row) (h : Head) (n : ℕ) → Entry s tree i h n → r .row ≡ row → longest-of (r .holds) ≡ longest → (row ≡ 42 → h .name ≡ bytes "InstdAmt")
-      → refusal-found f ≡ judgement judging parent r h (between (h .start) (h .close) s))
-      → Laid s tree t i next → (of-entry rows e 0 ≡ 42 → head-of t .name ≡ bytes "InstdAmt")
-      → refusal-found f ≡ walk profile (judgement judging) t parent (row-at names rows places e)
+  pub text-in-leaf : (f : Finding) → following ≤ i + 1 → (longest ≡ 0 → ⊥) → Judged s tree judging parent i row longest f → Walks s tree rows places judging parent i e f
   unfolding row-at head-of longest-of
-  text-in-leaf f short long g (laid-text {h = h} {w = w} entry n w-is) amount =
+  text-in-leaf f short long g profile st _ next (laid-text {h = h} {w = w} entry n w-is) amount =
       let holds = holds-text rows places e (λ z. long (longest-is ∙ z)) in
-      g (row-at names rows places e) h _ entry (sym row-is) (ap longest-of holds ∙ sym longest-is) (λ k. amount (sym row-is ∙ k)) ∙
-      ap (judgement judging parent (row-at names rows places e) h) (sym w-is) ∙
-      sym (walk-leaf profile (judgement judging) parent (row-at names rows places e) h w _ holds)
-  text-in-leaf f short long g (laid-elements entry more all) amount = absurd (omega (arith, next-cell entry following-is))
+      g (row-at rows places e) h _ entry (sym row-is) (ap longest-of holds ∙ sym longest-is) (λ k. amount (sym row-is ∙ k)) ∙
+      ap (judgement judging parent (row-at rows places e) h) (sym w-is) ∙
+      sym (walk-leaf profile (judgement judging) parent (row-at rows places e) h w _ holds)
+  text-in-leaf f short long g profile st _ next (laid-elements entry more all) amount = absurd (omega (arith, next-cell entry following-is))
 
-  pub elements-in-group : {t : Element} {next : ℕ} (f : Finding) → i + 1 < following → longest ≡ 0
-      → ((h : Head) (n : ℕ) → Entry s tree i h n → (ts : Elements) → LaidAll s tree ts (i + 1) n → refusal-found f ≡
-      walk-all profile (judgement judging) ts (of-entry rows e 0) (from-here (places-between rows places (of-entry rows e 5) (of-entry rows e 6))) (h .close))
-      → Laid s tree t i next → refusal-found f ≡ walk profile (judgement judging) t parent (row-at names rows places e)
+  pub elements-in-group : (f : Finding) → i + 1 < following → longest ≡ 0 → WalksAll s tree rows places judging i e f → Walks s tree rows places judging parent i e f
   unfolding row-at
-  elements-in-group f many zero-long g (laid-text entry n w-is) = absurd (omega (arith, next-cell entry following-is))
-  elements-in-group f many zero-long g (laid-elements {h = h} {ts = ts} entry more all) =
-      g h _ entry ts all ∙
-      sym (walk-group profile (judgement judging) parent (row-at names rows places e) h ts _ (holds-places rows places e (sym longest-is ∙ zero-long)))
+  elements-in-group f many none-long g profile st _ next (laid-text entry n w-is) amount = absurd (omega (arith, next-cell entry following-is))
+  elements-in-group f many none-long g profile st _ next (laid-elements {h = h} {ts = ts} entry more all) amount =
+      g profile st h _ entry ts all ∙
+      sym (walk-group profile (judgement judging) parent (row-at rows places e) h ts _ (holds-places rows places e (sym longest-is ∙ none-long)))
 
-  pub elements-in-leaf : {t : Element} {next at : ℕ} → i + 1 < following → (longest ≡ 0 → ⊥) → Cell tree (i + 1) 0 at → Laid s tree t i next
-      → refuse 3 row at ≡ walk profile (judgement judging) t parent (row-at names rows places e)
-  unfolding row-at
-  elements-in-leaf many long at-is (laid-text entry n w-is) = absurd (omega (arith, next-cell entry following-is))
-  elements-in-leaf many long at-is (laid-elements {h = h} {ts = ts} entry more all) =
+  pub elements-in-leaf : {at : ℕ} → i + 1 < following → (longest ≡ 0 → ⊥) → Cell tree (i + 1) 0 at → Walks s tree rows places judging parent i e (Refused (NotAllowedThere row at))
+  unfolding row-at refusal-found refusal-of numbered refuse
+  elements-in-leaf many long at-is profile st _ next (laid-text entry n w-is) amount = absurd (omega (arith, next-cell entry following-is))
+  elements-in-leaf many long at-is profile st _ next (laid-elements {h = h} {ts = ts} entry more all) amount =
       rw (row-is, first-child (h .start) all more at-is)
-      (sym (walk-in-leaf profile (judgement judging) parent (row-at names rows places e) h ts _ (holds-text rows places e (λ z. long (longest-is ∙ z)))))
+      (sym (walk-in-leaf profile (judgement judging) parent (row-at rows places e) h ts _ (holds-text rows places e (λ z. long (longest-is ∙ z)))))

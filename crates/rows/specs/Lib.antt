@@ -1,2 +1,3 @@
--- What the walk answers.
+-- A profile's numbers, and what the walk answers.
+pub mod Profile
 pub mod Walk

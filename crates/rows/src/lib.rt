@@ -1,33 +1,36 @@
 // The walk of refusals 3 and 4 over the laid-out tree of a message, and the same walk with the judgement of 6 to 8 at the leaves. The rows are a profile in
-// numbers (crates/rows_places/specs/Numbers.antt); every function but `check` is for any such profile.
+// numbers (crates/rows_places/specs/Numbers.antt); every function but `rows_refusal` is for any such profile.
 mod profile;
 
 use paper::Fault;
 use paper::Finding;
+use rows_places::Places;
+use rows_places::Rows;
 use rows_places::Sought;
-ghost use Prim.Native.Nat.{_+_, _<_};
-ghost use Rattle.paper.specs.Rows.{rows};
-ghost use Rattle.rows.specs.Walk.{WalkPromise, Walks, WalksAll};
+use tree::Tree;
+ghost use Prim.Native.Nat.{_<_};
+ghost use mathlib.Core.Path.{_≡_};
+ghost use Rattle.paper.specs.Answers.{refusal-found};
+ghost use Rattle.rows.specs.Walk.{WalkPromise, Walks, WalksAll, unless-found};
 
 // Element i as entry e, under a parent's row.
 fn element(
     s: &[u8],
-    tree: &[u16],
-    names: &[u8],
-    rows: &[u16],
-    places: &[u16],
+    tree: &Tree,
+    rows: &Rows,
+    places: &Places,
     judging: bool,
     parent: usize,
     i: usize,
     e: u16,
 ) -> Finding
-    ensures { λ r. ⌜ Walks (now (s .entry)) (now (tree .entry)) (now (names .entry)) (now (rows .entry)) (now (places .entry)) judging parent i e r ⌝ }
+    ensures { λ r. ⌜ Walks (now (s .entry)) (now (tree .entry)) (now (rows .entry)) (now (places .entry)) judging parent i e r ⌝ }
 {
-    if 16384 <= i {
+    if tree::ELEMENTS <= i {
         return Finding::Nothing;
     }
-    let row = rows_places::wide(rows_places::of_entry(rows, e, 0));
-    let longest = rows_places::wide(rows_places::of_entry(rows, e, 4));
+    let row = tree::wide(rows_places::of_entry(rows, e, 0));
+    let longest = tree::wide(rows_places::of_entry(rows, e, 3));
     if tree::cell(tree, i, 4) <= i + 1 {
         if longest == 0 {
             return rows_contents::text_in_group(s, tree, rows, places, i, e);
@@ -35,7 +38,7 @@ fn element(
         return rows_contents::leaf(s, tree, judging, parent, i, row, longest);
     }
     if longest == 0 {
-        return children(s, tree, names, rows, places, judging, i, e);
+        return children(s, tree, rows, places, judging, i, e);
     }
     Finding::Refused(Fault::NotAllowedThere {
         element: row,
@@ -43,89 +46,67 @@ fn element(
     })
 }
 
+// A child that is not found among the places left in a group of this row.
+fn not_found(sought: Sought, row: usize, at: usize) -> Finding
+    ensures { λ r. ⌜ refusal-found r ≡ unless-found row at sought ⌝ }
+{
+    match sought {
+        Sought::Never => Finding::Refused(Fault::NotAllowedThere {
+            element: row,
+            offset: at,
+        }),
+        Sought::Early(element) => Finding::Refused(Fault::Missing {
+            element,
+            offset: at,
+        }),
+        Sought::Found { .. } => Finding::Nothing,
+    }
+}
+
 // The children of element i as entry e, one after the other.
 fn children(
     s: &[u8],
-    tree: &[u16],
-    names: &[u8],
-    rows: &[u16],
-    places: &[u16],
+    tree: &Tree,
+    rows: &Rows,
+    places: &Places,
     judging: bool,
     i: usize,
     e: u16,
 ) -> Finding
-    ensures { λ r. ⌜ WalksAll (now (s .entry)) (now (tree .entry)) (now (names .entry)) (now (rows .entry)) (now (places .entry)) judging i e r ⌝ }
+    requires { ⌜ i < 4700 ⌝ }
+    ensures { λ r. ⌜ WalksAll (now (s .entry)) (now (tree .entry)) (now (rows .entry)) (now (places .entry)) judging i e r ⌝ }
 {
-    if 16384 <= i {
-        return Finding::Nothing;
-    }
-    let row = rows_places::wide(rows_places::of_entry(rows, e, 0));
-    let to = rows_places::of_entry(rows, e, 6);
+    let row = tree::wide(rows_places::of_entry(rows, e, 0));
+    let to = rows_places::of_entry(rows, e, 5);
     let next = tree::cell(tree, i, 4);
-    let mut place = rows_places::of_entry(rows, e, 5);
+    let mut from = rows_places::of_entry(rows, e, 4);
     let mut further = false;
     let mut child = i + 1;
     while child < next {
-        let at = tree::cell(tree, child, 0);
         let after = tree::cell(tree, child, 4);
         if after <= child {
             return Finding::Nothing;
         }
-        let sought = rows_places::seek_further(
-            s,
-            tree,
-            names,
-            rows,
-            places,
-            child,
-            place,
-            further,
-            to,
-        );
-        match sought {
-            Sought::Never => {
-                return Finding::Refused(Fault::NotAllowedThere {
-                    element: row,
-                    offset: at,
-                });
-            }
-            Sought::Early(element) => {
-                return Finding::Refused(Fault::Missing {
-                    element,
-                    offset: at,
-                });
-            }
-            Sought::Found {
-                entry,
-                place: left,
-                further: again,
-            } => {
-                let found = element(s, tree, names, rows, places, judging, row, child, entry);
-                if let Finding::Refused(fault) = found {
-                    return Finding::Refused(fault);
-                }
-                place = left;
-                further = again;
-            }
+        let sought = rows_places::seek_further(tree, rows, places, child, from, further, to);
+        let Sought::Found { entry, left, seen } = sought else {
+            return not_found(sought, row, tree::cell(tree, child, 0));
+        };
+        let found = element(s, tree, rows, places, judging, row, child, entry);
+        if let Finding::Refused(fault) = found {
+            return Finding::Refused(fault);
         }
+        from = left;
+        further = seen;
         child = after;
     }
-    rows_places::ends_further(rows, places, place, further, to, tree::cell(tree, i, 3))
+    rows_contents::ended(rows, places, from, further, to, tree::cell(tree, i, 3))
 }
 
 // The walk over the rows, from the root: 3 and 4, or, where it is judging, 6 to 8 as well.
-pub fn check(s: &[u8], tree: &[u16], judging: bool) -> Finding
+pub fn rows_refusal(s: &[u8], tree: &Tree, judging: bool) -> Finding
     ensures { λ r. ⌜ WalkPromise (now (s .entry)) (now (tree .entry)) judging r ⌝ }
 {
-    element(
-        s,
-        tree,
-        &profile::NAMES,
-        &profile::ROWS,
-        &profile::PLACES,
-        judging,
-        0,
-        0,
-        0,
-    )
+    let rows = profile::rows();
+    let places = profile::places();
+    element(s, tree, &rows, &places, judging, 0, 0, 0)
 }

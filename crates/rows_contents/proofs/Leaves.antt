@@ -2,37 +2,63 @@
 use Prim.Native.Nat.{ℕ, suc, _+_, _-_, _<_, _≤_}
 use mathlib.Core.List.{List, [], _∷_}
 use mathlib.Core.Bool.{Bool, true, false, not}
-use mathlib.Core.Option.{Option, none}
+use mathlib.Core.Option.{Option, none, some}
 use mathlib.Core.Path.{_≡_, refl, sym, ap, _∙_}
 use native.Mathlib.Omega.{arith}
 use lib.Dec.{eqb}
 use lib.ListN.{length, drop, length-take, length-drop}
 use borrow.Author.Tests.{eqb-true, eqb-false, ne-eqb}
-use Rattle.paper.specs.Bytes.{if_then_else_, bytes, white, value-character, every}
+use Rattle.paper.specs.Bytes.{if_then_else_, bytes, white, value-character, Every, every}
 use Rattle.paper.specs.Form.{Head}
 use Rattle.paper.specs.Rows.{Place, Row, longest-of}
 use Rattle.paper.specs.Values.{right-for, lies-from, allowed}
-use Rattle.paper.specs.Refusals.{from-here, Refusal, refuse, first-not, ends, only-white, leaf-refusal}
+use Rattle.paper.specs.Refusals.{Left, from-here, missing, Refusal, refuse, first-not, ends, only-white, leaf-refusal}
 use Rattle.paper.proofs.Laws.{number-of, offset-of}
 use Rattle.leaf_texts.proofs.Laws.{none-first, one-first}
 use Rattle.tree.specs.Laid.{between, Entry}
+use Rattle.tree.proofs.Laws.{Cell, at-cell, start-cell, close-cell, known-cell}
+use Rattle.rows_places.specs.Seek.{lacking}
+use Rattle.rows_places.specs.declared.Lacks.{Lacks}
+use Rattle.rows_places.specs.declared.Lacks.the-variants as lacks
 use Rattle.leaf_values.specs.Judgements.{told, Judges}
 use Rattle.leaf_values.specs.declared.Judgement.{Judgement}
 use Rattle.leaf_values.specs.declared.Judgement.the-variants.{Fine, EmptyOrTooLong, NotInTheSet, NotAllowed}
 
--- text in a group
-module _ (ps : List Place) (h : Head) {t w : List ℕ} (text-is : t ≡ w) where
-  pub black-refused : {row row′ start black : ℕ} → row′ ≡ row → start ≡ h .start → black ≡ first-not white t → black < length t
-      → refuse 3 row′ (start + black) ≡ only-white row ps h w
-  unfolding only-white
-  black-refused p q r l =
-      let f : first-not white w < length w = rw text-is at (rw r at l) in
-      rw (p, q, r, text-is, one-first white w f)
+-- the end tag
+module _ (left : Left) (close : ℕ) {l : Lacks} (m : lacking l ≡ missing left) where
+  pub ends-early : {k : ℕ} → l ≡ lacks.Row k → refuse 4 k close ≡ ends left close
+  unfolding ends lacking
+  ends-early {k = k} q = let e : missing left ≡ some k = sym (rw q at m) in rw (e, ends)
 
-  pub white-ends : (row : ℕ) {o : Option Refusal} {black : ℕ} → black ≡ first-not white t → length t ≤ black → o ≡ ends (from-here ps) (h .close) → o ≡ only-white row ps h w
+  pub ends-well : l ≡ lacks.Nothing → none ≡ ends left close
+  unfolding ends lacking
+  ends-well q = let e : missing left ≡ none = sym (rw q at m) in rw (e, ends)
+
+-- the text of an element as code reads it, and what is known of it
+module _ {s tree : List ℕ} {i next : ℕ} {h : Head} (entry : Entry s tree i h next) {start close : ℕ} {t : List ℕ} (start-is : Cell tree i 2 start)
+    (close-is : Cell tree i 3 close) (text-is : t ≡ between start close s) where
+  pub text-there : t ≡ between (h .start) (h .close) s
+  text-there = rw (start-cell entry start-is, close-cell entry close-is) at text-is
+
+  module _ {known : ℕ} (known-is : Cell tree i 5 known) where
+    pub white-there : known ≡ 1 → Every white t
+    white-there k = rw text-there (entry .numbers .white-known (sym (known-cell entry known-is) ∙ k))
+
+    pub values-there : known ≡ 3 → Every value-character t
+    values-there k = rw text-there (entry .numbers .values-known (sym (known-cell entry known-is) ∙ k))
+
+-- text in a group
+module _ (ps : List Place) (h : Head) (row : ℕ) {t w : List ℕ} {black : ℕ} (text-is : t ≡ w) (black-is : black ≡ first-not white t) where
+  pub black-refused : {row′ start : ℕ} → row′ ≡ row → start ≡ h .start → black < length t → refuse 3 row′ (start + black) ≡ only-white row ps h w
   unfolding only-white
-  white-ends row r l e =
-      let f : length w ≤ first-not white w = rw text-is at (rw r at l) in
+  black-refused p q l =
+      let f : first-not white w < length w = rw text-is at (rw black-is at l) in
+      rw (p, q, black-is, text-is, one-first white w f)
+
+  pub white-ends : {o : Option Refusal} → length t ≤ black → o ≡ ends (from-here ps) (h .close) → o ≡ only-white row ps h w
+  unfolding only-white
+  white-ends l e =
+      let f : length w ≤ first-not white w = rw text-is at (rw black-is at l) in
       rw (none-first white w f) e
 
 -- the first byte that is not of a kind lies within the text
@@ -101,10 +127,10 @@ module _ {s tree : List ℕ} {i next parent row longest : ℕ} (r : Row) (h : He
           leaf-any parent r h c (between (h .start) (h .close) s) (λ f. eqb-false row 42 q (sym row-is ∙ f)) ∙
           d .judged (r) (record { name = h .name; currency = c; at = h .at; start = h .start; close = h .close }) row-is longest-is refl ∙ told-any row h c j
 
-  module _ {at start close : ℕ} {c t : List ℕ} {j k : Judgement} (at-is : at ≡ h .at) (start-is : start ≡ h .start) (close-is : close ≡ h .close)
-      (currency-is : c ≡ between (at + 15) (at + 18) s) (text-is : t ≡ between start close s) (judges : Judges parent row longest c t j) (told-as : j ≡ k) where
+  module _ {at start close known : ℕ} {c t : List ℕ} {j k : Judgement} (at-is : Cell tree i 0 at) (start-is : Cell tree i 2 start) (close-is : Cell tree i 3 close)
+      (known-is : Cell tree i 5 known) (currency-is : c ≡ between (at + 15) (at + 18) s) (text-is : t ≡ between start close s)
+      (judges : (known ≡ 3 → Every value-character t) → Judges parent row longest c t j) (told-as : j ≡ k) where
     pub judged-as : leaf-refusal parent r h (between (h .start) (h .close) s) ≡ told row h k
     judged-as =
-        let currency-there : c ≡ between (h .at + 15) (h .at + 18) s = rw at-is at currency-is in
-        let text-there : t ≡ between (h .start) (h .close) s = rw (start-is, close-is) at text-is in
-        judged-text c k currency-there (rw (text-there, told-as) at judges)
+        let currency-there : c ≡ between (h .at + 15) (h .at + 18) s = rw (at-cell entry at-is) at currency-is in
+        judged-text c k currency-there (rw (text-there entry start-is close-is text-is, told-as) at (judges (values-there entry start-is close-is text-is known-is)))

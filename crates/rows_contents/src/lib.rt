@@ -2,25 +2,34 @@
 use leaf_values::Judgement;
 use paper::Fault;
 use paper::Finding;
+use rows_places::Lacks;
+use rows_places::Places;
+use rows_places::Rows;
+use tree::Tree;
 ghost use mathlib.Core.Path.{_≡_};
 ghost use mathlib.Core.Bool.{true};
 ghost use Prim.Native.Nat.{ℕ, _+_, _≤_, _<_};
 ghost use lib.ListN.{length};
-ghost use Rattle.paper.specs.Bytes.{white};
+ghost use Rattle.paper.specs.Bytes.{white, Every};
 ghost use Rattle.paper.specs.Form.{Head};
-ghost use Rattle.paper.specs.Refusals.{refuse, only-white, first-not};
+ghost use Rattle.paper.specs.Refusals.{refuse, ends, only-white, first-not};
 ghost use Rattle.paper.specs.Answers.{refusal-found};
 ghost use Rattle.tree.specs.Laid.{between, Entry};
-ghost use Rattle.rows_places.specs.Numbers.{of-entry, places-between};
+ghost use Rattle.rows_places.specs.Numbers.{of-entry, places-left, places-of};
 ghost use Rattle.rows_contents.specs.Judged.{Judged};
 
-// The place of the first byte that is not white space; the length where there is none.
-fn first_black(s: &[u8]) -> usize
-    ensures { λ r. ⌜ r ≡ first-not white (now (s .entry)) ⌝ }
+// The place of the first byte that is not white space; the length where there is none. Where it is known that the text is white space alone
+// (1, crates/tree/specs/Laid.antt), it is not read again.
+fn first_black(s: &[u8], known: usize) -> usize
+    ensures { λ r. ⌜ ((known ≡ 1 → Every white (now (s .entry))) → r ≡ first-not white (now (s .entry))) ⌝ }
 {
+    if known == 1 {
+        return s.len();
+    }
+    let ranks = form_ranks::ranks();
     let mut i = 0;
     while i < s.len() {
-        if !form_ranks::is_white(s[i]) {
+        if !form_ranks::is_white(&ranks, s[i]) {
             return i;
         }
         i += 1;
@@ -28,18 +37,31 @@ fn first_black(s: &[u8]) -> usize
     i
 }
 
+// The end tag of a group, where the places from `from` up to `to` are left, and one of the `plus` at `from` may have been seen.
+pub fn ended(rows: &Rows, places: &Places, from: u16, seen: bool, to: u16, close: usize) -> Finding
+    ensures { λ r. ⌜ refusal-found r ≡ ends (places-left (now (rows .entry)) (now (places .entry)) from seen to) close ⌝ }
+{
+    let lacks = rows_places::missing_further(rows, places, from, seen, to);
+    match lacks {
+        Lacks::Nothing => Finding::Nothing,
+        Lacks::Row(element) => Finding::Refused(Fault::Missing {
+            element,
+            offset: close,
+        }),
+    }
+}
+
 // Text in a group, element i as entry e: white space alone, and the end tag.
 pub fn text_in_group(
     s: &[u8],
-    tree: &[u16],
-    rows: &[u16],
-    places: &[u16],
+    tree: &Tree,
+    rows: &Rows,
+    places: &Places,
     i: usize,
     e: u16,
 ) -> Finding
-    ensures { λ r. ⌜ ((h : Head) (next : ℕ) → Entry (now (s .entry)) (now (tree .entry)) i h next
-        → refusal-found r ≡ only-white (of-entry (now (rows .entry)) e 0)
-        (places-between (now (rows .entry)) (now (places .entry)) (of-entry (now (rows .entry)) e 5) (of-entry (now (rows .entry)) e 6)) h (between (h .start) (h .close) (now (s .entry)))) ⌝ }
+    ensures { λ r. ⌜ ((h : Head) (next : ℕ) → Entry (now (s .entry)) (now (tree .entry)) i h next → refusal-found r
+        ≡ only-white (of-entry (now (rows .entry)) e 0) (places-of (now (rows .entry)) (now (places .entry)) e) h (between (h .start) (h .close) (now (s .entry)))) ⌝ }
 {
     let start = tree::cell(tree, i, 2);
     let close = tree::cell(tree, i, 3);
@@ -47,20 +69,16 @@ pub fn text_in_group(
         return Finding::Nothing;
     }
     let text = rows_places::part(s, start, close);
-    let black = first_black(text);
+    let black = first_black(text, tree::cell(tree, i, 5));
     if black < text.len() {
         return Finding::Refused(Fault::NotAllowedThere {
-            element: rows_places::wide(rows_places::of_entry(rows, e, 0)),
+            element: tree::wide(rows_places::of_entry(rows, e, 0)),
             offset: start + black,
         });
     }
-    rows_places::ends(
-        rows,
-        places,
-        rows_places::of_entry(rows, e, 5),
-        rows_places::of_entry(rows, e, 6),
-        close,
-    )
+    let from = rows_places::of_entry(rows, e, 4);
+    let to = rows_places::of_entry(rows, e, 5);
+    ended(rows, places, from, false, to, close)
 }
 
 // Refusal 7, so far behind the start of the leaf's text.
@@ -80,7 +98,7 @@ fn outside(s: &[u8], row: usize, start: usize, behind: usize) -> Finding
 }
 
 // 6 to 8 at element i as a leaf of this row. The currency of row 42 stands in its start tag.
-fn judged(s: &[u8], tree: &[u16], parent: usize, i: usize, row: usize, longest: usize) -> Finding
+fn judged(s: &[u8], tree: &Tree, parent: usize, i: usize, row: usize, longest: usize) -> Finding
     ensures { λ r. ⌜ Judged (now (s .entry)) (now (tree .entry)) true parent i row longest r ⌝ }
 {
     let at = tree::cell(tree, i, 0);
@@ -96,6 +114,7 @@ fn judged(s: &[u8], tree: &[u16], parent: usize, i: usize, row: usize, longest: 
         longest,
         currency,
         rows_places::part(s, start, close),
+        tree::cell(tree, i, 5),
     );
     match judgement {
         Judgement::Fine => Finding::Nothing,
@@ -114,7 +133,7 @@ fn judged(s: &[u8], tree: &[u16], parent: usize, i: usize, row: usize, longest: 
 // Element i as a leaf of this row.
 pub fn leaf(
     s: &[u8],
-    tree: &[u16],
+    tree: &Tree,
     judging: bool,
     parent: usize,
     i: usize,

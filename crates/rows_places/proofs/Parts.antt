@@ -21,6 +21,3 @@ module _ (t : List ℕ) (from to : ℕ) where
   pub part-end : length t < to → between from to t ≡ take (length t - from) (drop from t)
   part-end h =
       take-all (to - from) (drop from t) (omega (arith, length-drop from t)) ∙ sym (take-all (length t - from) (drop from t) (omega (arith, length-drop from t)))
-
-pub between-is : (t : List ℕ) {from from′ to to′ : ℕ} → from ≡ from′ → to ≡ to′ → between from to t ≡ between from′ to′ t
-between-is t p q = rw (p, q)

@@ -7,12 +7,15 @@ use mathlib.Core.Path.{_≡_, refl, sym, ap, _∙_}
 use native.Mathlib.Omega.{arith}
 use native.Mathlib.Nat.{add-zero}
 use lib.Dec.{eqb, ltb}
-use borrow.Author.Tests.{ne-eqb, eqb-false, ltb-true, ltb-false}
+use lib.ListN.{getD}
+use borrow.Author.Tests.{ne-eqb, eqb-false, lt-ltb, le-ltb, ltb-true, ltb-false}
 use Rattle.paper.specs.Bytes.{if_then_else_, same}
-use Rattle.paper.specs.Rows.{Place, one, opt, plus, either, Row, name, row-of}
-use Rattle.paper.specs.Refusals.{Left, from-here, again, rows-at, required, left-of, first-row, missing-of, missing, Sought, never, early, found, past, named-in, seek-in, seek, Refusal, refuse, ends}
+use Rattle.paper.specs.Rows.{Place, one, opt, plus, either, Row, name}
+use Rattle.paper.specs.Refusals.{Left, from-here, again, rows-at, required, left-of, first-row, missing-of, missing, Sought, never, early, found, past, named-in, seek-in, seek}
 use Rattle.paper.proofs.Laws.{same-says, false-not-true}
-use Rattle.rows_places.specs.Numbers.{of-entry, of-place, first-of, second-of, of-kind, place-at, places-from, places-between, places-left, name-at, row-at}
+use Rattle.form_names.specs.Names.{name-number}
+use Rattle.form_names.proofs.Laws.{same-number}
+use Rattle.rows_places.specs.Numbers.{number-at, of-entry, of-place, first-of, second-of, of-kind, place-at, places-from, places-between, places-left, StandsFor}
 use Rattle.rows_places.specs.Seek.{lacking, behind, Resolved, Known, Takes, StandsAt, Seeks}
 use Rattle.rows_places.specs.declared.Lacks.{Lacks}
 use Rattle.rows_places.specs.declared.Lacks.the-variants as lacks
@@ -21,6 +24,20 @@ use Rattle.rows_places.specs.declared.Sought.{Sought as Sought′}
 use Rattle.rows_places.specs.declared.Standing.the-variants as standing
 use Rattle.rows_places.specs.declared.Sought.the-variants as sought
 use Rattle.rows_places.specs.declared.Taker.the-variants as taker
+
+-- a number of a table, where there is one
+module _ (lines numbers : ℕ) (table : List (List ℕ)) (e k : ℕ) where
+  pub number-there : e < lines → k < numbers → number-at lines numbers table e k ≡ getD (getD table e []) k 0
+  unfolding number-at
+  number-there l h = rw (lt-ltb e lines l, lt-ltb k numbers h)
+
+  pub no-line : lines ≤ e → number-at lines numbers table e k ≡ 0
+  unfolding number-at
+  no-line l = rw (le-ltb e lines l)
+
+  pub no-number : e < lines → numbers ≤ k → number-at lines numbers table e k ≡ 0
+  unfolding number-at
+  no-number l h = rw (lt-ltb e lines l, le-ltb k numbers h)
 
 -- a place of each kind
 module _ (kind k l : ℕ) where
@@ -75,7 +92,7 @@ module _ (kind k l : ℕ) where
   unfolding of-kind rows-at
   kind-choice h = rw (ne-eqb kind 0 (λ e. omega arith), ne-eqb kind 1 (λ e. omega arith), ne-eqb kind 2 (λ e. omega arith))
 
-module _ (rows places : List ℕ) where
+module _ (rows places : List (List ℕ)) where
   -- one place more, at the front and at the end; and none
   pub between-more : (p q : ℕ) → p < q → places-between rows places p q ≡ place-at rows places p ∷ places-between rows places (p + 1) q
   unfolding places-between places-from
@@ -117,58 +134,53 @@ module _ (rows places : List ℕ) where
     unfolding missing-of
     missing-ends h = rw (between-none p q h)
 
+-- the name of an entry, compared by its number
+module _ {profile : List Row} {rows places : List (List ℕ)} {parent : ℕ} (w : List ℕ) (e : ℕ) (st : StandsFor profile rows places parent e) where
+  pub named-by : {t : Bool} → eqb (name-number w) (of-entry rows e 2) ≡ t → same w (name (of-entry rows e 0)) ≡ t
+  named-by q = sym (same-number w (of-entry rows e 0) (st .row-there)) ∙ ap (λ (n : ℕ). eqb (name-number w) n) (sym (st .name-number-is)) ∙ q
+
+  pub known-by : eqb (name-number w) (of-entry rows e 2) ≡ true → Known profile rows places parent w e
+  known-by q = record { row-is = st .row-is; name-is = same-says w (name (of-entry rows e 0)) (named-by q) }
+
+kind-begins : (kind k l : ℕ) → (ks : List ℕ) × (rows-at (of-kind kind k l) ≡ k ∷ ks)
+kind-begins kind k l = go (ltb kind 3) refl
+  where
+    go : (b : Bool) → ltb kind 3 ≡ b → (ks : List ℕ) × (rows-at (of-kind kind k l) ≡ k ∷ ks)
+    go true e = ([], kind-single kind k l (ltb-true kind 3 e))
+    go false e = (l ∷ [], kind-choice kind k l (ltb-false kind 3 e))
+
 -- the entry that takes a place
-module _ {profile : List Row} {names rows places : List ℕ} {parent p : ℕ} (w : List ℕ) (r : Resolved profile names rows places parent p) where
-  named-by : (e : ℕ) {t : Bool} → same w (name-at names rows e) ≡ t → same w (name (of-entry rows e 0)) ≡ t
-  named-by e s = rw (r .named e) s
-
-  takes-known : (e : ℕ) {k : ℕ} → k ≡ of-entry rows e 0 → row-of profile parent k ≡ row-at names rows places e → same w (name-at names rows e) ≡ true
-      → Known profile names rows places parent w e
-  takes-known e k q s = record { row-is = rw k at q; name-is = same-says w (name-at names rows e) s }
-
-  kind-begins : (kind k l : ℕ) → (ks : List ℕ) × (rows-at (of-kind kind k l) ≡ k ∷ ks)
-  kind-begins kind k l = go (ltb kind 3) refl
-    where
-      go : (b : Bool) → ltb kind 3 ≡ b → (ks : List ℕ) × (rows-at (of-kind kind k l) ≡ k ∷ ks)
-      go true e = ([], kind-single kind k l (ltb-true kind 3 e))
-      go false e = (l ∷ [], kind-choice kind k l (ltb-false kind 3 e))
-
-  first-takes : same w (name-at names rows (of-place places p 1)) ≡ true
-      → named-in (rows-at (place-at rows places p)) w ≡ some (first-of rows places p)
-  unfolding named-in place-at
-  first-takes s =
+module _ {profile : List Row} {rows places : List (List ℕ)} {parent p : ℕ} (w : List ℕ) (r : Resolved profile rows places parent p) where
+  pub by-first : {e : ℕ} → e ≡ of-place places p 1 → eqb (name-number w) (of-entry rows e 2) ≡ true → Takes profile rows places parent w p (taker.Entry e)
+  unfolding Takes named-in place-at
+  by-first {e} q s =
+      let st : StandsFor profile rows places parent e = rw q (r .first-stands) in
       let b = kind-begins (of-place places p 0) (first-of rows places p) (second-of rows places p) in
-      rw (b .1, named-by (of-place places p 1) s)
+      (rw (b .1, ← q, named-by w e st s), known-by w e st s)
 
-  pub by-first : {e : ℕ} → e ≡ of-place places p 1 → same w (name-at names rows e) ≡ true → Takes profile names rows places parent w p (taker.Entry e)
-  unfolding Takes
-  by-first {e} q s = rw q (let s : same w (name-at names rows (of-place places p 1)) ≡ true = rw q at s in (first-takes s, takes-known (of-place places p 1) refl (r .first-is) s))
-
-  pub by-nobody : {e : ℕ} → e ≡ of-place places p 1 → same w (name-at names rows e) ≡ false → of-place places p 0 < 3 → Takes profile names rows places parent w p taker.Nobody
+  pub by-nobody : {e : ℕ} → e ≡ of-place places p 1 → eqb (name-number w) (of-entry rows e 2) ≡ false → of-place places p 0 < 3
+      → Takes profile rows places parent w p taker.Nobody
   unfolding Takes named-in place-at
   by-nobody {e} q s h =
-      let s : same w (name-at names rows (of-place places p 1)) ≡ false = rw q at s in
-      rw (kind-single (of-place places p 0) (first-of rows places p) (second-of rows places p) h, named-by (of-place places p 1) s)
+      let st : StandsFor profile rows places parent e = rw q (r .first-stands) in
+      rw (kind-single (of-place places p 0) (first-of rows places p) (second-of rows places p) h, ← q, named-by w e st s)
 
-  module _ {d : ℕ} (q : d ≡ of-place places p 1) (s : same w (name-at names rows d) ≡ false) (h : 3 ≤ of-place places p 0) where
-    pub by-second : {e : ℕ} → e ≡ of-place places p 2 → same w (name-at names rows e) ≡ true → Takes profile names rows places parent w p (taker.Entry e)
-    unfolding Takes named-in place-at
-    by-second {e} q′ s′ =
-        let s : same w (name-at names rows (of-place places p 1)) ≡ false = rw q at s in
-        let s′ : same w (name-at names rows (of-place places p 2)) ≡ true = rw q′ at s′ in
-        rw q′ (
-          rw
-              (kind-choice (of-place places p 0) (first-of rows places p) (second-of rows places p) h, named-by (of-place places p 1) s, named-by (of-place places p 2) s′)
-              refl,
-          takes-known (of-place places p 2) refl (r .second-is) s′,
-        )
+  module _ {d : ℕ} (q : d ≡ of-place places p 1) (s : eqb (name-number w) (of-entry rows d 2) ≡ false) (h : 3 ≤ of-place places p 0) {e : ℕ} (q′ : e ≡ of-place places p 2) where
+    of-two : {t : Bool} → eqb (name-number w) (of-entry rows e 2) ≡ t
+        → named-in (rows-at (place-at rows places p)) w ≡ (if t then some (of-entry rows e 0) else none)
+    unfolding named-in place-at
+    of-two s′ =
+        let st : StandsFor profile rows places parent d = rw q (r .first-stands) in
+        let st′ : StandsFor profile rows places parent e = rw q′ (r .second-stands) in
+        rw (kind-choice (of-place places p 0) (first-of rows places p) (second-of rows places p) h, ← q, ← q′, named-by w d st s, named-by w e st′ s′)
 
-    pub by-neither : {e : ℕ} → e ≡ of-place places p 2 → same w (name-at names rows e) ≡ false → Takes profile names rows places parent w p taker.Nobody
-    unfolding Takes named-in place-at
-    by-neither {e} q′ s′ =
-        let s : same w (name-at names rows (of-place places p 1)) ≡ false = rw q at s in
-        let s′ : same w (name-at names rows (of-place places p 2)) ≡ false = rw q′ at s′ in
-        rw (kind-choice (of-place places p 0) (first-of rows places p) (second-of rows places p) h, named-by (of-place places p 1) s, named-by (of-place places p 2) s′)
+    pub by-second : eqb (name-number w) (of-entry rows e 2) ≡ true → Takes profile rows places parent w p (taker.Entry e)
+    unfolding Takes
+    by-second s′ = (of-two s′, known-by w e (rw q′ (r .second-stands)) s′)
+
+    pub by-neither : eqb (name-number w) (of-entry rows e 2) ≡ false → Takes profile rows places parent w p taker.Nobody
+    unfolding Takes
+    by-neither s′ = of-two s′
 
 -- a child behind places that don't take it
 behind-one : (p : Place) (b : Bool) → required p ≡ b → (q : Sought) → past p q ≡ behind (if b then some (first-row (rows-at p)) else none) q
@@ -214,7 +226,7 @@ module _ (w : List ℕ) where
   seek-nothing none = refl
   seek-nothing (some k) = refl
 
-module _ (profile : List Row) (rows places : List ℕ) (parent : ℕ) (w : List ℕ) where
+module _ (profile : List Row) (rows places : List (List ℕ)) (parent : ℕ) (w : List ℕ) where
   -- how far the search has come: the places from `from` up to p don't take the name
   abbrev pub SoFar : (from to p : ℕ) → Type 0
   SoFar from to p =
@@ -225,8 +237,8 @@ module _ (profile : List Row) (rows places : List ℕ) (parent : ℕ) (w : List 
   unfolding missing-of behind
   find-starts from to = rw (between-none rows places from from (omega arith))
 
-  module _ (names : List ℕ) (from to p : ℕ) where
-    pub find-goes : from ≤ p → p < to → SoFar from to p → Takes profile names rows places parent w p taker.Nobody → SoFar from to (p + 1)
+  module _ (from to p : ℕ) where
+    pub find-goes : from ≤ p → p < to → SoFar from to p → Takes profile rows places parent w p taker.Nobody → SoFar from to (p + 1)
     unfolding Takes
     find-goes l h e t =
         let one = ap (λ (ps : List Place). seek-in ps w) (between-more rows places p to h) ∙ seek-none w (place-at rows places p) (places-between rows places (p + 1) to) t in
@@ -234,28 +246,28 @@ module _ (profile : List Row) (rows places : List ℕ) (parent : ℕ) (w : List 
         behind-past (places-between rows places from p) (place-at rows places p) (seek-in (places-between rows places (p + 1) to) w) ∙
         ap (λ (ps : List Place). behind (missing-of ps) (seek-in (places-between rows places (p + 1) to) w)) (sym (between-end rows places from p l))
 
-    pub find-stops : (d : ℕ) → from ≤ p → p < to → SoFar from to p → Takes profile names rows places parent w p (taker.Entry d)
-        → StandsAt profile names rows places parent w from to (standing.At p d)
+    pub find-stops : (d : ℕ) → from ≤ p → p < to → SoFar from to p → Takes profile rows places parent w p (taker.Entry d)
+        → StandsAt profile rows places parent w from to (standing.At p d)
     unfolding Takes StandsAt
     find-stops d l h e t =
         let one = ap (λ (ps : List Place). seek-in ps w) (between-more rows places p to h) ∙
         seek-some w (place-at rows places p) (places-between rows places (p + 1) to) (of-entry rows d 0) (t .0) in
         (l, h, t .1, e ∙ ap (λ (q : Sought). behind (missing-of (places-between rows places from p)) q) one)
 
-    pub find-ends : to ≤ p → SoFar from to p → StandsAt profile names rows places parent w from to standing.Nowhere
+    pub find-ends : to ≤ p → SoFar from to p → StandsAt profile rows places parent w from to standing.Nowhere
     unfolding StandsAt
     find-ends h e = e ∙ ap (λ (ps : List Place). behind (missing-of (places-between rows places from p)) (seek-in ps w)) (between-none rows places p to h) ∙
         seek-nothing w (missing-of (places-between rows places from p))
 
 -- what comes of a child whose place is known
-module _ (profile : List Row) (names rows places : List ℕ) (parent : ℕ) (w : List ℕ) (from to : ℕ) where
-  pub seek-never : {r : Standing} → StandsAt profile names rows places parent w from to r → r ≡ standing.Nowhere
-      → Seeks profile names rows places parent w (from-here (places-between rows places from to)) from to sought.Never
+module _ (profile : List Row) (rows places : List (List ℕ)) (parent : ℕ) (w : List ℕ) (from to : ℕ) where
+  pub seek-never : {r : Standing} → StandsAt profile rows places parent w from to r → r ≡ standing.Nowhere
+      → Seeks profile rows places parent w (from-here (places-between rows places from to)) from to sought.Never
   unfolding StandsAt Seeks seek
   seek-never s e = rw e at s
 
-  module _ {r : Standing} {p d : ℕ} (s : StandsAt profile names rows places parent w from to r) (e : r ≡ standing.At p d) where
-    at : StandsAt profile names rows places parent w from to (standing.At p d)
+  module _ {r : Standing} {p d : ℕ} (s : StandsAt profile rows places parent w from to r) (e : r ≡ standing.At p d) where
+    at : StandsAt profile rows places parent w from to (standing.At p d)
     at = rw e at s
 
     pub at-inside : p < to
@@ -263,7 +275,7 @@ module _ (profile : List Row) (names rows places : List ℕ) (parent : ℕ) (w :
     at-inside = at .1
 
     pub seek-early : {l : Lacks} {k : ℕ} → lacking l ≡ missing-of (places-between rows places from p) → l ≡ lacks.Row k
-        → Seeks profile names rows places parent w (from-here (places-between rows places from to)) from to (sought.Early k)
+        → Seeks profile rows places parent w (from-here (places-between rows places from to)) from to (sought.Early k)
     unfolding StandsAt Seeks seek lacking behind
     seek-early {k = k} m q =
         let found-at : some k ≡ missing-of (places-between rows places from p) = rw q at m in
@@ -276,7 +288,7 @@ module _ (profile : List Row) (names rows places : List ℕ) (parent : ℕ) (w :
           let found-at : none ≡ missing-of (places-between rows places from p) = rw q at m in
           at .3 ∙ ap (λ (o : Option ℕ). behind o (found (of-entry rows d 0) (left-of (place-at rows places p) (places-between rows places (p + 1) to)))) (sym found-at)
 
-      pub seek-plus : of-place places p 0 ≡ 2 → Seeks profile names rows places parent w (from-here (places-between rows places from to)) from to (sought.Found d p true)
+      pub seek-plus : of-place places p 0 ≡ 2 → Seeks profile rows places parent w (from-here (places-between rows places from to)) from to (sought.Found d p true)
       unfolding StandsAt Seeks seek places-left place-at
       seek-plus k = (
         at .0,
@@ -286,7 +298,7 @@ module _ (profile : List Row) (names rows places : List ℕ) (parent : ℕ) (w :
             (kind-plus (of-place places p 0) (first-of rows places p) (second-of rows places p) (places-between rows places (p + 1) to) k),
       )
 
-      pub seek-once : (of-place places p 0 ≡ 2 → ⊥) → Seeks profile names rows places parent w (from-here (places-between rows places from to)) from to (sought.Found d (p + 1) false)
+      pub seek-once : (of-place places p 0 ≡ 2 → ⊥) → Seeks profile rows places parent w (from-here (places-between rows places from to)) from to (sought.Found d (p + 1) false)
       unfolding StandsAt Seeks seek places-left place-at
       seek-once k = (
         omega (arith, at .0),
@@ -298,56 +310,42 @@ module _ (profile : List Row) (names rows places : List ℕ) (parent : ℕ) (w :
 
   -- one of a `plus` may have been seen
   abbrev pub Sought-where : Bool → Sought′ → Type 0
-  Sought-where seen r = Seeks profile names rows places parent w (places-left rows places from seen to) from to r
+  Sought-where seen r = Seeks profile rows places parent w (places-left rows places from seen to) from to r
 
-  pub seek-fresh : (r : Sought′) {seen : Bool} → seen ≡ false → Seeks profile names rows places parent w (from-here (places-between rows places from to)) from to r → Sought-where seen r
+  pub seek-fresh : (r : Sought′) {seen : Bool} → seen ≡ false → Seeks profile rows places parent w (from-here (places-between rows places from to)) from to r → Sought-where seen r
   unfolding places-left
   seek-fresh r f s = rw f s
 
   pub seek-seen : (r : Sought′) {seen : Bool} → seen ≡ true → Sought-where true r → Sought-where seen r
   seek-seen r f s = rw f s
 
-  module _ (f : Resolved profile names rows places parent from) (h : from < to) where
-    pub seek-again : (d : ℕ) → d ≡ of-place places from 1 → same w (name-at names rows d) ≡ true → Sought-where true (sought.Found d from true)
+  module _ (f : Resolved profile rows places parent from) (h : from < to) where
+    pub seek-again : (d : ℕ) → d ≡ of-place places from 1 → eqb (name-number w) (of-entry rows d 2) ≡ true → Sought-where true (sought.Found d from true)
     unfolding Seeks seek places-left
     seek-again d q s =
-        let t : same w (name-at names rows (of-place places from 1)) ≡ true = rw q at s in
-        let known = takes-known w f (of-place places from 1) refl (f .first-is) t in
-        (omega arith, λ _. h, rw q known, rw (q, named-by w f (of-place places from 1) t))
+        let st : StandsFor profile rows places parent d = rw q (f .first-stands) in
+        (omega arith, λ _. h, known-by w d st s, rw (← q, named-by w d st s))
 
-    pub seek-on : (d : ℕ) → d ≡ of-place places from 1 → same w (name-at names rows d) ≡ false
-        → (r : Sought′) → Seeks profile names rows places parent w (from-here (places-between rows places (from + 1) to)) (from + 1) to r → Sought-where true r
+    pub seek-on : (d : ℕ) → d ≡ of-place places from 1 → eqb (name-number w) (of-entry rows d 2) ≡ false
+        → (r : Sought′) → Seeks profile rows places parent w (from-here (places-between rows places (from + 1) to)) (from + 1) to r → Sought-where true r
     unfolding Seeks seek places-left
     seek-on d q s r g = go r g
       where
         skip : (if same w (name (first-of rows places from)) then found (first-of rows places from) (again (first-of rows places from) (places-between rows places (from + 1) to)) else
             seek-in (places-between rows places (from + 1) to) w) ≡ seek-in (places-between rows places (from + 1) to) w
-        skip = let t : same w (name-at names rows (of-place places from 1)) ≡ false = rw q at s in rw (named-by w f (of-place places from 1) t)
+        skip = let st : StandsFor profile rows places parent d = rw q (f .first-stands) in rw (← q, named-by w d st s)
 
-        go : (r : Sought′) → Seeks profile names rows places parent w (from-here (places-between rows places (from + 1) to)) (from + 1) to r → Sought-where true r
+        go : (r : Sought′) → Seeks profile rows places parent w (from-here (places-between rows places (from + 1) to)) (from + 1) to r → Sought-where true r
         go sought.Never g = skip ∙ g
         go (sought.Early k) g = skip ∙ g
         go (sought.Found e p m) g = (omega (arith, g .0), g .1, g .2, skip ∙ g .3)
 
--- the end tag
-module _ (close : ℕ) where
-  pub ends-early : (ps : List Place) {l : Lacks} {k : ℕ} → lacking l ≡ missing-of ps → l ≡ lacks.Row k → refuse 4 k close ≡ ends (from-here ps) close
-  unfolding ends missing lacking
-  ends-early ps {k = k} m q = let e : missing-of ps ≡ some k = sym (rw q at m) in rw (e, ends)
+-- what is missing where one of a `plus` may have been seen
+module _ (rows places : List (List ℕ)) (from to : ℕ) {o : Option ℕ} {seen : Bool} where
+  pub missing-fresh : seen ≡ false → o ≡ missing-of (places-between rows places from to) → o ≡ missing (places-left rows places from seen to)
+  unfolding places-left missing
+  missing-fresh f e = rw f e
 
-  pub ends-well : (ps : List Place) {l : Lacks} → lacking l ≡ missing-of ps → l ≡ lacks.Nothing → none ≡ ends (from-here ps) close
-  unfolding ends missing lacking
-  ends-well ps m q = let e : missing-of ps ≡ none = sym (rw q at m) in rw (e, ends)
-
-  module _ (rows places : List ℕ) (from to : ℕ) where
-    pub ends-fresh : {o : Option Refusal} {seen : Bool} → seen ≡ false → o ≡ ends (from-here (places-between rows places from to)) close → o ≡ ends (places-left rows places from seen to) close
-    unfolding places-left
-    ends-fresh f e = rw f e
-
-    pub ends-on : {o : Option Refusal} {seen : Bool} → seen ≡ true → o ≡ ends (from-here (places-between rows places (from + 1) to)) close → o ≡ ends (places-left rows places from seen to) close
-    unfolding places-left ends missing
-    ends-on f e = rw f e
-
-    pub ends-nothing : {seen : Bool} → seen ≡ true → to ≤ from → none ≡ ends (places-left rows places from seen to) close
-    unfolding places-left ends missing missing-of
-    ends-nothing f h = rw (f, between-none rows places (from + 1) to (omega arith))
+  pub missing-on : seen ≡ true → o ≡ missing-of (places-between rows places (from + 1) to) → o ≡ missing (places-left rows places from seen to)
+  unfolding places-left missing
+  missing-on f e = rw f e

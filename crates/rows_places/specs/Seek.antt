@@ -1,14 +1,15 @@
 -- What comes of a child, by its name and the places that are left.
 use Prim.Native.Nat.{ℕ, _+_, _≤_, _<_}
 use mathlib.Core.List.{List}
-use mathlib.Core.Bool.{true}
+use mathlib.Core.Bool.{Bool, true}
 use mathlib.Core.Option.{Option, none, some}
 use mathlib.Core.Path.{_≡_}
+use Rattle.paper.specs.Form.{Head}
 use Rattle.paper.specs.Rows.{Row, name, row-of}
 use Rattle.paper.specs.Refusals.{Left, rows-at, left-of, missing-of, never, early, found, named-in, seek-in, seek}
 use Rattle.paper.specs.Refusals as refusals
 use Rattle.tree.specs.Laid.{Entry}
-use Rattle.rows_places.specs.Numbers.{of-entry, of-place, first-of, second-of, place-at, places-between, places-left, name-at, row-at}
+use Rattle.rows_places.specs.Numbers.{of-entry, of-place, place-at, places-between, places-left, row-at, StandsFor}
 use Rattle.rows_places.specs.declared.Lacks.{Lacks}
 use Rattle.rows_places.specs.declared.Lacks.the-variants as lacks
 use Rattle.rows_places.specs.declared.Taker.{Taker}
@@ -30,12 +31,11 @@ behind (some first) never = never
 behind (some first) (early k) = early first
 behind (some first) (found k left) = early first
 
-module _ (profile : List Row) (names rows places : List ℕ) (parent : ℕ) where
-  -- The entries at place p are the profile's rows under this parent, and each entry has its row's name.
+module _ (profile : List Row) (rows places : List (List ℕ)) (parent : ℕ) where
+  -- The entries at place p stand for the profile's rows under this parent.
   pub record Resolved (p : ℕ) : Type 0 where
-    pub first-is : row-of profile parent (first-of rows places p) ≡ row-at names rows places (of-place places p 1)
-    pub second-is : row-of profile parent (second-of rows places p) ≡ row-at names rows places (of-place places p 2)
-    pub named : (e : ℕ) → name (of-entry rows e 0) ≡ name-at names rows e
+    pub first-stands : StandsFor profile rows places parent (of-place places p 1)
+    pub second-stands : StandsFor profile rows places parent (of-place places p 2)
 
   abbrev pub ResolvedBetween : (from to : ℕ) → Type 0
   ResolvedBetween from to = (p : ℕ) → from ≤ p → p < to → Resolved p
@@ -43,8 +43,8 @@ module _ (profile : List Row) (names rows places : List ℕ) (parent : ℕ) wher
   module _ (w : List ℕ) where
     -- An entry that is the profile's row under this parent, and has this name.
     pub record Known (e : ℕ) : Type 0 where
-      pub row-is : row-of profile parent (of-entry rows e 0) ≡ row-at names rows places e
-      pub name-is : w ≡ name-at names rows e
+      pub row-is : row-of profile parent (of-entry rows e 0) ≡ row-at rows places e
+      pub name-is : w ≡ name (of-entry rows e 0)
 
     -- Which entry at place p has the name.
     unfoldable pub Takes : (p : ℕ) → Taker → Type 0
@@ -63,5 +63,12 @@ module _ (profile : List Row) (names rows places : List ℕ) (parent : ℕ) wher
     unfoldable pub Seeks : Left → (from to : ℕ) → Sought → Type 0
     Seeks left from to sought.Never = seek left w ≡ never
     Seeks left from to (sought.Early first) = seek left w ≡ early first
-    Seeks left from to (sought.Found e p further) =
-        (from ≤ p) × (further ≡ true → p < to) × Known e × (seek left w ≡ found (of-entry rows e 0) (places-left rows places p further to))
+    Seeks left from to (sought.Found e p seen) =
+        (from ≤ p) × (seen ≡ true → p < to) × Known e × (seek left w ≡ found (of-entry rows e 0) (places-left rows places p seen to))
+
+-- The promise of `seek_further`: what comes of element i, whatever its name, where the places from `from` up to `to` are left, and one of the `plus` at `from` may
+-- have been seen.
+abbrev pub SeekPromise : (tree : List ℕ) (rows places : List (List ℕ)) (i from : ℕ) (seen : Bool) (to : ℕ) → Sought → Type 0
+SeekPromise tree rows places i from seen to r =
+    (profile : List Row) (parent : ℕ) (s : List ℕ) (h : Head) (next : ℕ) → ResolvedBetween profile rows places parent from to → (seen ≡ true → from < to)
+    → Entry s tree i h next → Seeks profile rows places parent (h .name) (places-left rows places from seen to) from to r

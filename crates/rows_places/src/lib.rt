@@ -1,22 +1,29 @@
 // Which place of a group a child takes, and what is missing before it, over a profile in numbers (specs/Numbers.antt).
-use paper::Fault;
-use paper::Finding;
+use tree::Tree;
 ghost use mathlib.Core.Path.{_≡_};
 ghost use mathlib.Core.Bool.{true};
 ghost use mathlib.Core.List.{List};
 ghost use Prim.Native.Nat.{ℕ, _+_, _<_};
-ghost use lib.ListN.{getD};
-ghost use Rattle.paper.specs.Bytes.{same};
+ghost use lib.Dec.{eqb};
 ghost use Rattle.paper.specs.Form.{Head};
 ghost use Rattle.paper.specs.Rows.{Row};
-ghost use Rattle.paper.specs.Refusals.{from-here, missing-of, ends};
-ghost use Rattle.paper.specs.Answers.{refusal-found};
+ghost use Rattle.paper.specs.Refusals.{from-here, missing-of, missing};
+ghost use Rattle.form_names.specs.Names.{name-number};
 ghost use Rattle.tree.specs.Laid.{between, Entry};
-ghost use Rattle.rows_places.specs.Numbers.{of-entry, of-place, places-between, places-left, name-at};
-ghost use Rattle.rows_places.specs.Seek.{lacking, ResolvedBetween, Resolved, Takes, StandsAt, Seeks};
+ghost use Rattle.rows_places.specs.Numbers.{of-entry, of-place, places-between, places-left};
+ghost use Rattle.rows_places.specs.Seek.{lacking, ResolvedBetween, Resolved, Takes, StandsAt, Seeks, SeekPromise};
+
+// A profile in numbers (specs/Numbers.antt): its entries, and their places.
+const ENTRIES: usize = 56;
+
+const PLACES: usize = 62;
+
+pub type Rows = [[u16; 6]; ENTRIES];
+
+pub type Places = [[u16; 3]; PLACES];
 
 // The first row that is missing.
-enum Lacks {
+pub enum Lacks {
     Nothing,
     Row(usize),
 }
@@ -33,43 +40,39 @@ enum Standing {
     At { place: u16, entry: u16 },
 }
 
-// What comes of a child: it is never allowed there, or comes too early for a missing row, or is found, with the places that are left then.
+// What comes of a child: it is never allowed there, or comes too early for a missing row, or is found as an entry, with the places that are left then: those from
+// `left` on, where one of the `plus` at `left` may have been seen.
 pub enum Sought {
     Never,
     Early(usize),
-    Found {
-        entry: u16,
-        place: u16,
-        further: bool,
-    },
+    Found { entry: u16, left: u16, seen: bool },
 }
 
-pub fn wide(x: u16) -> usize
-    ensures { λ r. ⌜ r ≡ x ⌝ }
-{
-    x as usize
-}
-
-// A number of a list of them, 0 past its end.
-fn number(t: &[u16], k: usize) -> u16
-    ensures { λ r. ⌜ r ≡ getD (now (t .entry)) k 0 ⌝ }
-{
-    if k < t.len() {
-        return t[k];
-    }
-    0
-}
-
-pub fn of_entry(rows: &[u16], e: u16, k: u16) -> u16
+// Number k of entry e; of place p.
+pub fn of_entry(rows: &Rows, e: u16, k: usize) -> u16
     ensures { λ r. ⌜ r ≡ of-entry (now (rows .entry)) e k ⌝ }
 {
-    number(rows, wide(e) * 7 + wide(k))
+    let entry = tree::wide(e);
+    if ENTRIES <= entry {
+        return 0;
+    }
+    if 6 <= k {
+        return 0;
+    }
+    rows[entry][k]
 }
 
-fn of_place(places: &[u16], p: u16, k: u16) -> u16
+fn of_place(places: &Places, p: u16, k: usize) -> u16
     ensures { λ r. ⌜ r ≡ of-place (now (places .entry)) p k ⌝ }
 {
-    number(places, wide(p) * 3 + wide(k))
+    let place = tree::wide(p);
+    if PLACES <= place {
+        return 0;
+    }
+    if 3 <= k {
+        return 0;
+    }
+    places[place][k]
 }
 
 // A part of a text, as much of it as there is.
@@ -89,73 +92,67 @@ pub fn part(t: &[u8], from: usize, to: usize) -> &[u8]
 }
 
 // The first row that is missing among the places from `from` up to `to`.
-fn missing(rows: &[u16], places: &[u16], from: u16, to: u16) -> Lacks
+fn missing(rows: &Rows, places: &Places, from: u16, to: u16) -> Lacks
     ensures { λ r. ⌜ lacking r ≡ missing-of (places-between (now (rows .entry)) (now (places .entry)) from to) ⌝ }
 {
     let mut p = from;
     while p < to {
         if of_place(places, p, 0) != 1 {
-            return Lacks::Row(wide(of_entry(rows, of_place(places, p, 1), 0)));
+            return Lacks::Row(tree::wide(of_entry(rows, of_place(places, p, 1), 0)));
         }
         p += 1;
     }
     Lacks::Nothing
 }
 
-// Element i has the name of entry e.
-fn named(s: &[u8], tree: &[u16], names: &[u8], rows: &[u16], i: usize, e: u16) -> bool
-    ensures { λ r. ⌜ ((h : Head) (next : ℕ) → Entry (now (s .entry)) (now (tree .entry)) i h next
-        → r ≡ same (h .name) (name-at (now (names .entry)) (now (rows .entry)) e)) ⌝ }
+// The same where one of the `plus` at `from` may have been seen.
+pub fn missing_further(rows: &Rows, places: &Places, from: u16, seen: bool, to: u16) -> Lacks
+    ensures { λ r. ⌜ lacking r ≡ missing (places-left (now (rows .entry)) (now (places .entry)) from seen to) ⌝ }
 {
-    let from = wide(of_entry(rows, e, 2));
-    let to = wide(of_entry(rows, e, 3));
-    tree::is_named(s, tree, i, part(names, from, to))
+    if !seen {
+        return missing(rows, places, from, to);
+    }
+    if to <= from {
+        return Lacks::Nothing;
+    }
+    missing(rows, places, from + 1, to)
+}
+
+// Element i has the name of entry e.
+fn named(tree: &Tree, rows: &Rows, i: usize, e: u16) -> bool
+    ensures { λ r. ⌜ ((s : List ℕ) (h : Head) (next : ℕ) → Entry s (now (tree .entry)) i h next
+        → r ≡ eqb (name-number (h .name)) (of-entry (now (rows .entry)) e 2)) ⌝ }
+{
+    tree::cell(tree, i, 1) == tree::wide(of_entry(rows, e, 2))
 }
 
 // The entry at place p that has the name of element i.
-fn taken_by(
-    s: &[u8],
-    tree: &[u16],
-    names: &[u8],
-    rows: &[u16],
-    places: &[u16],
-    i: usize,
-    p: u16,
-) -> Taker
-    ensures { λ r. ⌜ ((profile : List Row) (parent : ℕ) (h : Head) (next : ℕ) → Resolved profile (now (names .entry)) (now (rows .entry)) (now (places .entry)) parent p
-        → Entry (now (s .entry)) (now (tree .entry)) i h next → Takes profile (now (names .entry)) (now (rows .entry)) (now (places .entry)) parent (h .name) p r) ⌝ }
+fn taken_by(tree: &Tree, rows: &Rows, places: &Places, i: usize, p: u16) -> Taker
+    ensures { λ r. ⌜ ((profile : List Row) (parent : ℕ) (s : List ℕ) (h : Head) (next : ℕ) → Resolved profile (now (rows .entry)) (now (places .entry)) parent p
+        → Entry s (now (tree .entry)) i h next → Takes profile (now (rows .entry)) (now (places .entry)) parent (h .name) p r) ⌝ }
 {
     let first = of_place(places, p, 1);
-    if named(s, tree, names, rows, i, first) {
+    if named(tree, rows, i, first) {
         return Taker::Entry(first);
     }
     if of_place(places, p, 0) < 3 {
         return Taker::Nobody;
     }
     let second = of_place(places, p, 2);
-    if named(s, tree, names, rows, i, second) {
+    if named(tree, rows, i, second) {
         return Taker::Entry(second);
     }
     Taker::Nobody
 }
 
 // The first place from `from` up to `to` that takes the name of element i.
-fn find(
-    s: &[u8],
-    tree: &[u16],
-    names: &[u8],
-    rows: &[u16],
-    places: &[u16],
-    i: usize,
-    from: u16,
-    to: u16,
-) -> Standing
-    ensures { λ r. ⌜ ((profile : List Row) (parent : ℕ) (h : Head) (next : ℕ) → ResolvedBetween profile (now (names .entry)) (now (rows .entry)) (now (places .entry)) parent from to
-        → Entry (now (s .entry)) (now (tree .entry)) i h next → StandsAt profile (now (names .entry)) (now (rows .entry)) (now (places .entry)) parent (h .name) from to r) ⌝ }
+fn find(tree: &Tree, rows: &Rows, places: &Places, i: usize, from: u16, to: u16) -> Standing
+    ensures { λ r. ⌜ ((profile : List Row) (parent : ℕ) (s : List ℕ) (h : Head) (next : ℕ) → ResolvedBetween profile (now (rows .entry)) (now (places .entry)) parent from to
+        → Entry s (now (tree .entry)) i h next → StandsAt profile (now (rows .entry)) (now (places .entry)) parent (h .name) from to r) ⌝ }
 {
     let mut p = from;
     while p < to {
-        let taker = taken_by(s, tree, names, rows, places, i, p);
+        let taker = taken_by(tree, rows, places, i, p);
         if let Taker::Entry(entry) = taker {
             return Standing::At { place: p, entry };
         }
@@ -165,22 +162,13 @@ fn find(
 }
 
 // What comes of element i where the places from `from` up to `to` are left.
-fn seek(
-    s: &[u8],
-    tree: &[u16],
-    names: &[u8],
-    rows: &[u16],
-    places: &[u16],
-    i: usize,
-    from: u16,
-    to: u16,
-) -> Sought
-    ensures { λ r. ⌜ ((profile : List Row) (parent : ℕ) (h : Head) (next : ℕ) → ResolvedBetween profile (now (names .entry)) (now (rows .entry)) (now (places .entry)) parent from to
-        → Entry (now (s .entry)) (now (tree .entry)) i h next
-        → Seeks profile (now (names .entry)) (now (rows .entry)) (now (places .entry)) parent (h .name)
+fn seek(tree: &Tree, rows: &Rows, places: &Places, i: usize, from: u16, to: u16) -> Sought
+    ensures { λ r. ⌜ ((profile : List Row) (parent : ℕ) (s : List ℕ) (h : Head) (next : ℕ) → ResolvedBetween profile (now (rows .entry)) (now (places .entry)) parent from to
+        → Entry s (now (tree .entry)) i h next
+        → Seeks profile (now (rows .entry)) (now (places .entry)) parent (h .name)
         (from-here (places-between (now (rows .entry)) (now (places .entry)) from to)) from to r) ⌝ }
 {
-    let standing = find(s, tree, names, rows, places, i, from, to);
+    let standing = find(tree, rows, places, i, from, to);
     let Standing::At { place, entry } = standing else {
         return Sought::Never;
     };
@@ -191,8 +179,8 @@ fn seek(
     if of_place(places, place, 0) == 2 {
         return Sought::Found {
             entry,
-            place,
-            further: true,
+            left: place,
+            seen: true,
         };
     }
     if to <= place {
@@ -200,74 +188,36 @@ fn seek(
     }
     Sought::Found {
         entry,
-        place: place + 1,
-        further: false,
+        left: place + 1,
+        seen: false,
     }
 }
 
 // The same where one of the `plus` at `from` may have been seen.
 pub fn seek_further(
-    s: &[u8],
-    tree: &[u16],
-    names: &[u8],
-    rows: &[u16],
-    places: &[u16],
+    tree: &Tree,
+    rows: &Rows,
+    places: &Places,
     i: usize,
     from: u16,
-    further: bool,
+    seen: bool,
     to: u16,
 ) -> Sought
-    ensures { λ r. ⌜ ((profile : List Row) (parent : ℕ) (h : Head) (next : ℕ) → ResolvedBetween profile (now (names .entry)) (now (rows .entry)) (now (places .entry)) parent from to
-        → (further ≡ true → from < to) → Entry (now (s .entry)) (now (tree .entry)) i h next
-        → Seeks profile (now (names .entry)) (now (rows .entry)) (now (places .entry)) parent (h .name) (places-left (now (rows .entry)) (now (places .entry)) from further to) from to r) ⌝ }
+    ensures { λ r. ⌜ SeekPromise (now (tree .entry)) (now (rows .entry)) (now (places .entry)) i from seen to r ⌝ }
 {
-    if !further {
-        return seek(s, tree, names, rows, places, i, from, to);
+    if !seen {
+        return seek(tree, rows, places, i, from, to);
     }
     let entry = of_place(places, from, 1);
-    if named(s, tree, names, rows, i, entry) {
+    if named(tree, rows, i, entry) {
         return Sought::Found {
             entry,
-            place: from,
-            further: true,
+            left: from,
+            seen: true,
         };
     }
     if to <= from {
         return Sought::Never;
     }
-    seek(s, tree, names, rows, places, i, from + 1, to)
-}
-
-// The end tag of a group, where the places from `from` up to `to` are left.
-pub fn ends(rows: &[u16], places: &[u16], from: u16, to: u16, close: usize) -> Finding
-    ensures { λ r. ⌜ refusal-found r ≡ ends (from-here (places-between (now (rows .entry)) (now (places .entry)) from to)) close ⌝ }
-{
-    let lacks = missing(rows, places, from, to);
-    if let Lacks::Row(element) = lacks {
-        return Finding::Refused(Fault::Missing {
-            element,
-            offset: close,
-        });
-    }
-    Finding::Nothing
-}
-
-// The same where one of the `plus` at `from` may have been seen.
-pub fn ends_further(
-    rows: &[u16],
-    places: &[u16],
-    from: u16,
-    further: bool,
-    to: u16,
-    close: usize,
-) -> Finding
-    ensures { λ r. ⌜ refusal-found r ≡ ends (places-left (now (rows .entry)) (now (places .entry)) from further to) close ⌝ }
-{
-    if !further {
-        return ends(rows, places, from, to, close);
-    }
-    if to <= from {
-        return Finding::Nothing;
-    }
-    ends(rows, places, from + 1, to, close)
+    seek(tree, rows, places, i, from + 1, to)
 }

@@ -1,5 +1,5 @@
 -- Counts and sums: where a block's payments end, and block after block.
-use Prim.Native.Nat.{ℕ, suc, _+_, _*_, _-_, _≤_, _<_}
+use Prim.Native.Nat.{ℕ, suc, _+_, _-_, _≤_, _<_}
 use mathlib.Core.List.{List, [], _∷_, _++_, map}
 use mathlib.Core.Option.{Option, none, some}
 use mathlib.Core.Path.{_≡_, refl, sym, ap, _∙_, subst}
@@ -18,51 +18,52 @@ use Rattle.paper.specs.declared.Finding.{Finding}
 use Rattle.paper.specs.declared.Finding.the-variants as finding
 use Rattle.paper.proofs.Findings.{found-first}
 use Rattle.paper.proofs.Laws.{all-joined}
-use Rattle.tree.specs.Laid.{Laid}
-use Rattle.rule_limits.specs.Ordered.{PaymentsAt, no-payments, more-payments, Ordered}
+use Rattle.tree.specs.Laid.{LaidAt}
+use Rattle.rule_limits.specs.declared.PaymentAt.{PaymentAt}
+use Rattle.rule_limits.specs.Ordered.{PaymentsAt, no-payments, more-payments, payment-in, Ordered}
+use Rattle.rule_limits.proofs.First.{first-block, no-block-left, first-payment, stands-at, payment-there, one-fewer}
+use Rattle.rule_limits.proofs.Refusing.{later}
 use Rattle.tree_leaves.specs.Readable.{ReadBlock, ReadPayment, Readable}
+use Rattle.rule_totals.proofs.Amounts.{first-has, others-have, amounts}
 use Rattle.rule_counts.specs.Counted.{InBlock, BehindBlock, BlocksFrom, block-refusal, header-refusal}
-use Rattle.tree_leaves.proofs.Leaves.{later}
-use Rattle.rule_limits.proofs.First.{first-block, no-block-left, one-fewer}
-use Rattle.rule_totals.proofs.Amounts.{first-payment, first-has, others-have, amounts}
 
 -- Payment i is next, of n, and these of block k's payments are left.
-pub record Passing (s tree out : List ℕ) (k : ℕ) (ps rest : List Payment) (from i n : ℕ) : Type 0 where
+pub record Passing (s tree order : List ℕ) (k : ℕ) (ps rest : List Payment) (from i n : ℕ) : Type 0 where
   left : List Payment
-  left-at : PaymentsAt s tree out i (left ++ rest)
+  left-at : PaymentsAt s tree order i (left ++ rest)
   left-many : n ≡ i + length (left ++ rest)
   left-mine : All (InBlock k) left
   end-is : from + length ps ≡ i + length left
 
-module _ {s tree out : List ℕ} {k from n : ℕ} {ps rest : List Payment} where
-  pub passing : PaymentsAt s tree out from (ps ++ rest) → n ≡ from + length (ps ++ rest) → All (InBlock k) ps
-      → Passing s tree out k ps rest from from n
+module _ {s tree order : List ℕ} {k from n : ℕ} {ps rest : List Payment} where
+  pub passing : PaymentsAt s tree order from (ps ++ rest) → n ≡ from + length (ps ++ rest) → All (InBlock k) ps
+      → Passing s tree order k ps rest from from n
   passing at e mine = record { left = ps; left-at = at; left-many = e; left-mine = mine; end-is = refl }
 
-  module _ {i r : ℕ} (w : Passing s tree out k ps rest from i n) (h : i < n) (few : n ≤ 64) (here : i < 64 → r ≡ getD out (18 + 3 * i) 0) where
-    pub block-over : (r ≡ k → ⊥) → i ≡ from + length ps
+  module _ {i : ℕ} {q : PaymentAt} (w : Passing s tree order k ps rest from i n) (h : i < n) (few : n ≤ 64) (here : i < 64 → q ≡ payment-in order i) where
+    pub block-over : (q .number ≡ k → ⊥) → i ≡ from + length ps
     block-over other = go (w .left) (w .left-at) (w .left-mine) (w .end-is)
       where
-        go : (left : List Payment) → PaymentsAt s tree out i (left ++ rest) → All (InBlock k) left → from + length ps ≡ i + length left → i ≡ from + length ps
+        go : (left : List Payment) → PaymentsAt s tree order i (left ++ rest) → All (InBlock k) left → from + length ps ≡ i + length left → i ≡ from + length ps
         go [] at mine e = omega arith
-        go (p ∷ left) (more-payments at more) (all-more q mine) e = absurd (other (here (omega arith) ∙ at .number-is ∙ q))
+        go (p ∷ left) (more-payments at more) (all-more is mine) e = absurd (other (payment-there (here (omega arith)) at .number-is ∙ is))
 
-    pub block-goes : All (BehindBlock k) rest → r ≡ k → Passing s tree out k ps rest from (i + 1) n
+    pub block-goes : All (BehindBlock k) rest → q .number ≡ k → Passing s tree order k ps rest from (i + 1) n
     block-goes behind same = go (w .left) (w .left-at) (w .left-many) (w .left-mine) (w .end-is)
       where
-        go : (left : List Payment) → PaymentsAt s tree out i (left ++ rest) → n ≡ i + length (left ++ rest) → All (InBlock k) left
-            → from + length ps ≡ i + length left → Passing s tree out k ps rest from (i + 1) n
+        go : (left : List Payment) → PaymentsAt s tree order i (left ++ rest) → n ≡ i + length (left ++ rest) → All (InBlock k) left
+            → from + length ps ≡ i + length left → Passing s tree order k ps rest from (i + 1) n
         go [] at many mine e =
             let f = first-payment at many h in
             let x : k < f .one .block-number = first-has (f .first-is) behind in
-            let y : r ≡ f .one .block-number = here (omega arith) ∙ f .one-at .number-is in
+            let y : q .number ≡ f .one .block-number = payment-there (here (omega arith)) (f .one-there) .number-is in
             absurd (omega arith)
-        go (p ∷ left) (more-payments at more) many (all-more q mine) e =
+        go (p ∷ left) (more-payments at more) many (all-more is mine) e =
             let x : n ≡ i + 1 + length (left ++ rest) = omega arith in
             let y : from + length ps ≡ i + 1 + length left = omega arith in
             record { left = left; left-at = more; left-many = x; left-mine = mine; end-is = y }
 
-  pub payments-over : {i : ℕ} → Passing s tree out k ps rest from i n → n ≤ i → i ≡ from + length ps
+  pub payments-over : {i : ℕ} → Passing s tree order k ps rest from i n → n ≤ i → i ≡ from + length ps
   payments-over {i} w h = omega (arith, w .left-many, w .end-is, length-append (w .left) rest)
 
 -- all of two lists
@@ -76,14 +77,14 @@ module _ {A : Type 0} {P : A → Type 0} where
   all-right (a ∷ l) (all-more p h) = all-right l h
 
 -- payments that stand one after the other, taken apart
-module _ {s tree out : List ℕ} where
-  payments-left : {k : ℕ} (ps qs : List Payment) → PaymentsAt s tree out k (ps ++ qs) → PaymentsAt s tree out k ps
+module _ {s tree order : List ℕ} where
+  payments-left : {k : ℕ} (ps qs : List Payment) → PaymentsAt s tree order k (ps ++ qs) → PaymentsAt s tree order k ps
   payments-left [] qs at = no-payments
   payments-left (p ∷ ps) qs (more-payments a at) = more-payments a (payments-left ps qs at)
 
-  payments-right : {k n : ℕ} (ps : List Payment) {qs : List Payment} → PaymentsAt s tree out k (ps ++ qs) → n ≡ k + length ps
-      → PaymentsAt s tree out n qs
-  payments-right {k} {n} [] {qs} at e = subst (λ (m : ℕ). PaymentsAt s tree out m qs) (let x : k ≡ n = omega arith in x) at
+  payments-right : {k n : ℕ} (ps : List Payment) {qs : List Payment} → PaymentsAt s tree order k (ps ++ qs) → n ≡ k + length ps
+      → PaymentsAt s tree order n qs
+  payments-right {k} {n} [] {qs} at e = subst (λ (m : ℕ). PaymentsAt s tree order m qs) (let x : k ≡ n = omega arith in x) at
   payments-right {k} {n} (p ∷ ps) (more-payments a at) e = payments-right ps at (let x : n ≡ k + 1 + length ps = omega arith in x)
 
 -- the payments of a block and those of the blocks behind it
@@ -142,42 +143,42 @@ module _ (b : Element) (ps : List Payment) (from : ℕ) {to : ℕ} (many : to �
       unless (λ w. eqb (cents w) (sum-of ts)) 13 15 (child 15 b)) owns
 
 -- what `block_end` and `in_block` answer
-abbrev pub EndsAt : (out : List ℕ) (k from n to : ℕ) → Type 0
-EndsAt out k from n to =
-    (s tree : List ℕ) (ps rest : List Payment) → PaymentsAt s tree out from (ps ++ rest) → n ≡ from + length (ps ++ rest) → n ≤ 64
+abbrev pub EndsAt : (order : List ℕ) (k from n to : ℕ) → Type 0
+EndsAt order k from n to =
+    (s tree : List ℕ) (ps rest : List Payment) → PaymentsAt s tree order from (ps ++ rest) → n ≡ from + length (ps ++ rest) → n ≤ 64
     → All (InBlock k) ps → All (BehindBlock k) rest → to ≡ from + length ps
 
-abbrev pub BlockSays : (s tree out : List ℕ) (block from to : ℕ) (f : Finding) → Type 0
-BlockSays s tree out block from to f =
-    (b : Element) (next : ℕ) (ps : List Payment) → Laid s tree b block next → PaymentsAt s tree out from ps → to ≡ from + length ps → to ≤ 64
+abbrev pub BlockSays : (s tree order : List ℕ) (block from to : ℕ) (f : Finding) → Type 0
+BlockSays s tree order block from to f =
+    (b : Element) (ps : List Payment) → LaidAt s tree block b → PaymentsAt s tree order from ps → to ≡ from + length ps → to ≤ 64
     → map (λ p. p .own) ps ≡ all-of 37 b → ReadBlock b → All ReadPayment ps → refusal-found f ≡ block-refusal b
 
 -- Block k is next, with its payments from payment n on: what is left decides.
-pub record BlocksLeft (s tree out : List ℕ) (k n many-blocks many-payments : ℕ) (bs : List Element) : Type 0 where
+pub record BlocksLeft (s tree order : List ℕ) (k n many-blocks many-payments : ℕ) (bs : List Element) : Type 0 where
   rest : List Element
-  rest-from : BlocksFrom s tree out k n many-blocks many-payments rest
+  rest-from : BlocksFrom s tree order k n many-blocks many-payments rest
   refusal-is : block-counts bs ≡ block-counts rest
 
 -- One block, with its own refusal, and the blocks behind it.
-record OneBlock (s tree out : List ℕ) (k n many-blocks many-payments : ℕ) (bs : List Element) (to : ℕ) (f : Finding) : Type 0 where
+record OneBlock (s tree order : List ℕ) (k n many-blocks many-payments : ℕ) (bs : List Element) (to : ℕ) (f : Finding) : Type 0 where
   one : Element
   others : List Element
   found-is : refusal-found f ≡ block-refusal one
-  others-from : BlocksFrom s tree out (k + 1) to many-blocks many-payments others
+  others-from : BlocksFrom s tree order (k + 1) to many-blocks many-payments others
   split : block-counts bs ≡ block-refusal one or-else block-counts others
 
-module _ {s tree out : List ℕ} {bs : List Element} {many-blocks many-payments : ℕ} where
-  pub blocks-left : {k n : ℕ} → BlocksFrom s tree out k n many-blocks many-payments bs → BlocksLeft s tree out k n many-blocks many-payments bs
+module _ {s tree order : List ℕ} {bs : List Element} {many-blocks many-payments : ℕ} where
+  pub blocks-left : {k n : ℕ} → BlocksFrom s tree order k n many-blocks many-payments bs → BlocksLeft s tree order k n many-blocks many-payments bs
   blocks-left w = record { rest = bs; rest-from = w; refusal-is = refl }
 
-  module _ {k n : ℕ} (w : BlocksLeft s tree out k n many-blocks many-payments bs) where
+  module _ {k n : ℕ} (w : BlocksLeft s tree order k n many-blocks many-payments bs) where
     pub blocks-done : many-blocks ≤ k → refusal-found finding.Nothing ≡ block-counts bs
     unfolding refusal-found block-counts
     blocks-done h = sym (w .refusal-is ∙ ap (block-counts) (no-block-left (w .rest-from .blocks-at) (w .rest-from .blocks-many) h))
 
-    module _ {to block : ℕ} (f : Finding) (h : k < many-blocks) (here : block ≡ getD out k 0) (ends : EndsAt out k n many-payments to)
-        (says : BlockSays s tree out block n to f) where
-      one-block : OneBlock s tree out k n many-blocks many-payments bs to f
+    module _ {to block : ℕ} (f : Finding) (h : k < many-blocks) (here : k < 16 → block ≡ getD order k 0) (ends : EndsAt order k n many-payments to)
+        (says : BlockSays s tree order block n to f) where
+      one-block : OneBlock s tree order k n many-blocks many-payments bs to f
       one-block =
           let v = w .rest-from in
           let x = first-block (v .blocks-at) (v .blocks-many) h in
@@ -185,17 +186,17 @@ module _ {s tree out : List ℕ} {bs : List Element} {many-blocks many-payments 
           let ps = payments-of k b in
           let qs = payments-from (k + 1) (x .others) in
           let parts : payments-from k (w .rest) ≡ ps ++ qs = ap (payments-from k) (x .first-is) ∙ payments-split k b (x .others) in
-          let at : PaymentsAt s tree out n (ps ++ qs) = subst (PaymentsAt s tree out n) parts (v .payments-at) in
+          let at : PaymentsAt s tree order n (ps ++ qs) = subst (PaymentsAt s tree order n) parts (v .payments-at) in
           let many : many-payments ≡ n + length (ps ++ qs) = v .payments-many ∙ ap (λ (l : List Payment). n + length l) parts in
           let read : All ReadPayment (ps ++ qs) = subst (All ReadPayment) parts (v .read-payments) in
-          let end : to ≡ n + length ps = ends s tree ps qs at many (v .few) (mine-are k b) (behind-are k (k + 1) (omega arith) (x .others)) in
-          let few : to ≤ 64 = omega (arith, v .few, length-append ps qs) in
+          let end : to ≡ n + length ps = ends s tree ps qs at many (v .few-payments) (mine-are k b) (behind-are k (k + 1) (omega arith) (x .others)) in
+          let few : to ≤ 64 = omega (arith, v .few-payments, length-append ps qs) in
           let after : many-payments ≡ to + length qs = omega (arith, length-append ps qs) in
           record {
             one = b;
             others = x .others;
             found-is =
-                says b (x .one-next) ps (subst (λ (i : ℕ). Laid s tree b i (x .one-next)) (sym here) (x .one-laid)) (payments-left ps qs at) end few (owns-are k b)
+                says b ps (stands-at (here (omega (arith, v .few-blocks))) (x .one-laid)) (payments-left ps qs at) end few (owns-are k b)
                 (first-has (x .first-is) (v .read-blocks)) (all-left ps qs read);
             others-from =
                 record {
@@ -203,7 +204,8 @@ module _ {s tree out : List ℕ} {bs : List Element} {many-blocks many-payments 
                   blocks-many = one-fewer k (v .blocks-many) (x .first-is);
                   payments-at = payments-right ps at end;
                   payments-many = after;
-                  few = v .few;
+                  few-blocks = v .few-blocks;
+                  few-payments = v .few-payments;
                   read-blocks = others-have (x .first-is) (v .read-blocks);
                   read-payments = all-right ps read;
                 };
@@ -215,16 +217,16 @@ module _ {s tree out : List ℕ} {bs : List Element} {many-blocks many-payments 
           let o = one-block in
           found-first (block-refusal (o .one)) (block-counts (o .others)) f (o .found-is) e ∙ sym (o .split)
 
-      pub block-passed : f ≡ finding.Nothing → BlocksLeft s tree out (k + 1) to many-blocks many-payments bs
+      pub block-passed : f ≡ finding.Nothing → BlocksLeft s tree order (k + 1) to many-blocks many-payments bs
       block-passed e =
           let o = one-block in
           record { rest = o .others; rest-from = o .others-from; refusal-is = o .split ∙ later (block-counts (o .others)) (o .found-is) e }
 
 -- the whole: header, then blocks
-module _ {s tree out : List ℕ} {root : Element} {many-blocks many-payments : ℕ} (ordered : Ordered s tree out root)
-    (all-blocks : many-blocks ≡ length (blocks root)) (all-payments : many-payments ≡ length (payments root)) (few : many-payments ≤ 64)
-    (read : Readable root) where
-  pub all-from : BlocksFrom s tree out 0 0 many-blocks many-payments (blocks root)
+module _ {s tree order : List ℕ} {root : Element} {many-blocks many-payments : ℕ} (ordered : Ordered s tree order root)
+    (all-blocks : many-blocks ≡ length (blocks root)) (all-payments : many-payments ≡ length (payments root)) (few-payments : many-payments ≤ 64)
+    (few-blocks : many-blocks ≤ 16) (read : Readable root) where
+  pub all-from : BlocksFrom s tree order 0 0 many-blocks many-payments (blocks root)
   unfolding payments
   all-from =
       record {
@@ -232,7 +234,8 @@ module _ {s tree out : List ℕ} {root : Element} {many-blocks many-payments : �
         blocks-many = omega arith;
         payments-at = ordered .payments-at;
         payments-many = omega arith;
-        few = few;
+        few-blocks = few-blocks;
+        few-payments = few-payments;
         read-blocks = read .in-blocks;
         read-payments = read .in-payments;
       }

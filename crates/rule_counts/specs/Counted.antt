@@ -7,7 +7,7 @@ use lib.ListN.{length}
 use lib.Dec.{eqb}
 use Rattle.paper.specs.Form.{Element}
 use Rattle.paper.specs.Values.{number, cents}
-use Rattle.paper.specs.Payments.{Payment, child, all-of, of-header, payments-from, payments, sum-of}
+use Rattle.paper.specs.Payments.{Payment, child, all-of, of-header, payments-from, sum-of}
 use Rattle.paper.specs.Refusals.{Refusal, _or-else_, unless}
 use Rattle.paper.specs.Accepted.{All}
 use Rattle.rule_limits.specs.Ordered.{BlocksAt, PaymentsAt}
@@ -21,12 +21,13 @@ abbrev pub BehindBlock : ℕ → Payment → Type 0
 BehindBlock k p = k < p .block-number
 
 -- These blocks stand from block k on, and their payments from payment n on, up to so many blocks and payments.
-pub record BlocksFrom (s tree out : List ℕ) (k n many-blocks many-payments : ℕ) (bs : List Element) : Type 0 where
-  pub blocks-at : BlocksAt s tree out k bs
+pub record BlocksFrom (s tree order : List ℕ) (k n many-blocks many-payments : ℕ) (bs : List Element) : Type 0 where
+  pub blocks-at : BlocksAt s tree order k bs
   pub blocks-many : many-blocks ≡ k + length bs
-  pub payments-at : PaymentsAt s tree out n (payments-from k bs)
+  pub payments-at : PaymentsAt s tree order n (payments-from k bs)
   pub payments-many : many-payments ≡ n + length (payments-from k bs)
-  pub few : many-payments ≤ 64
+  pub few-blocks : many-blocks ≤ 16
+  pub few-payments : many-payments ≤ 64
   pub read-blocks : All ReadBlock bs
   pub read-payments : All ReadPayment (payments-from k bs)
 

@@ -1,13 +1,15 @@
 // Refusals 12 and 13: counts and sums, of the header and of each block.
 use paper::Fault;
 use paper::Finding;
+use rule_limits::Order;
 use rule_totals::Sum;
+use tree::Tree;
 use tree_routes::Found;
 ghost use mathlib.Core.Path.{_≡_};
 ghost use mathlib.Core.List.{List, _++_, map};
 ghost use mathlib.Core.Option.{Option};
-ghost use Prim.Native.Nat.{ℕ, _+_, _*_, _<_, _≤_};
-ghost use lib.ListN.{length, getD};
+ghost use Prim.Native.Nat.{ℕ, _+_, _≤_};
+ghost use lib.ListN.{length};
 ghost use lib.Dec.{eqb};
 ghost use Rattle.paper.specs.Form.{Element};
 ghost use Rattle.paper.specs.Values.{number, cents};
@@ -15,7 +17,7 @@ ghost use Rattle.paper.specs.Payments.{Payment, all-of, of-header, blocks as al
 ghost use Rattle.paper.specs.Refusals.{_or-else_, unless, counts-refusal, block-counts};
 ghost use Rattle.paper.specs.Answers.{refusal-found};
 ghost use Rattle.paper.specs.Accepted.{All};
-ghost use Rattle.tree.specs.Laid.{Laid};
+ghost use Rattle.tree.specs.Laid.{LaidAt};
 ghost use Rattle.tree_routes.specs.Finds.{Finds};
 ghost use Rattle.rule_limits.specs.Ordered.{PaymentsAt, Ordered};
 ghost use Rattle.tree_leaves.specs.Readable.{ReadCount, ReadMoney, ReadBlock, ReadPayment, Readable};
@@ -32,18 +34,8 @@ fn first_found(one: Finding, other: Finding) -> Finding
     }
 }
 
-// The number of payment k's block.
-fn block_of(out: &[u16], k: usize) -> usize
-    ensures { λ r. ⌜ (k < 64 → r ≡ getD (now (out .entry)) (18 + 3 * k) 0) ⌝ }
-{
-    if 64 <= k {
-        return 0;
-    }
-    tree::number(out, 18 + 3 * k)
-}
-
 // 12: the count that was found is not n.
-fn count_is(s: &[u8], tree: &[u16], found: Found, row: usize, n: usize) -> Finding
+fn count_is(s: &[u8], tree: &Tree, found: Found, row: usize, n: usize) -> Finding
     ensures { λ r. ⌜ ((o : Option Element) → Finds (now (s .entry)) (now (tree .entry)) o found → ReadCount o → refusal-found r ≡ unless (λ w. eqb (number w) n) 12 row o) ⌝ }
 {
     let Found::At(i) = found else {
@@ -72,7 +64,7 @@ fn same_cents(cents: u64, sum: Sum) -> bool
 }
 
 // 13: the sum that was found is not this one.
-fn sum_is(s: &[u8], tree: &[u16], found: Found, row: usize, sum: Sum) -> Finding
+fn sum_is(s: &[u8], tree: &Tree, found: Found, row: usize, sum: Sum) -> Finding
     ensures { λ r. ⌜ ((o : Option Element) (n : ℕ) → Finds (now (s .entry)) (now (tree .entry)) o found → ReadMoney o → Sums n sum
         → refusal-found r ≡ unless (λ w. eqb (cents w) n) 13 row o) ⌝ }
 {
@@ -92,13 +84,13 @@ fn sum_is(s: &[u8], tree: &[u16], found: Found, row: usize, sum: Sum) -> Finding
 }
 
 // Where the payments of block k end that stand from payment `from` on.
-fn block_end(out: &[u16], k: usize, from: usize, payments: usize) -> usize
-    ensures { λ r. ⌜ ((s tree : List ℕ) (ps rest : List Payment) → PaymentsAt s tree (now (out .entry)) from (ps ++ rest) → payments ≡ from + length (ps ++ rest)
+fn block_end(order: &Order, k: usize, from: usize, payments: usize) -> usize
+    ensures { λ r. ⌜ ((s tree : List ℕ) (ps rest : List Payment) → PaymentsAt s tree (now (order .entry)) from (ps ++ rest) → payments ≡ from + length (ps ++ rest)
         → payments ≤ 64 → All (InBlock k) ps → All (BehindBlock k) rest → r ≡ from + length ps) ⌝ }
 {
     let mut at = from;
     while at < payments {
-        if block_of(out, at) != k {
+        if rule_limits::payment(order, at).number != k {
             return at;
         }
         at += 1;
@@ -107,36 +99,36 @@ fn block_end(out: &[u16], k: usize, from: usize, payments: usize) -> usize
 }
 
 // 12 and 13 of the block at element `block`, whose payments stand from one up to another.
-fn in_block(s: &[u8], tree: &[u16], out: &[u16], block: usize, from: usize, to: usize) -> Finding
-    ensures { λ r. ⌜ ((b : Element) (next : ℕ) (ps : List Payment) → Laid (now (s .entry)) (now (tree .entry)) b block next
-        → PaymentsAt (now (s .entry)) (now (tree .entry)) (now (out .entry)) from ps → to ≡ from + length ps → to ≤ 64 → map (λ p. p .own) ps ≡ all-of 37 b → ReadBlock b
+fn in_block(s: &[u8], tree: &Tree, order: &Order, block: usize, from: usize, to: usize) -> Finding
+    ensures { λ r. ⌜ ((b : Element) (ps : List Payment) → LaidAt (now (s .entry)) (now (tree .entry)) block b
+        → PaymentsAt (now (s .entry)) (now (tree .entry)) (now (order .entry)) from ps → to ≡ from + length ps → to ≤ 64 → map (λ p. p .own) ps ≡ all-of 37 b → ReadBlock b
         → All ReadPayment ps → refusal-found r ≡ block-refusal b) ⌝ }
 {
     if to < from {
         return Finding::Nothing;
     }
-    let stated_count = tree_routes::child(s, tree, block, b"NbOfTxs");
+    let stated_count = tree_routes::child(tree, block, 14);
     let count = count_is(s, tree, stated_count, 14, to - from);
-    let stated_sum = tree_routes::child(s, tree, block, b"CtrlSum");
+    let stated_sum = tree_routes::child(tree, block, 15);
     let sum = sum_is(
         s,
         tree,
         stated_sum,
         15,
-        rule_totals::sum_of(s, tree, out, from, to),
+        rule_totals::sum_of(s, tree, order, from, to),
     );
     first_found(count, sum)
 }
 
 // 12 and 13 of each block.
-fn in_blocks(s: &[u8], tree: &[u16], out: &[u16], blocks: usize, payments: usize) -> Finding
-    ensures { λ r. ⌜ ((bs : List Element) → BlocksFrom (now (s .entry)) (now (tree .entry)) (now (out .entry)) 0 0 blocks payments bs → refusal-found r ≡ block-counts bs) ⌝ }
+fn in_blocks(s: &[u8], tree: &Tree, order: &Order, blocks: usize, payments: usize) -> Finding
+    ensures { λ r. ⌜ ((bs : List Element) → BlocksFrom (now (s .entry)) (now (tree .entry)) (now (order .entry)) 0 0 blocks payments bs → refusal-found r ≡ block-counts bs) ⌝ }
 {
     let mut k = 0;
     let mut from = 0;
     while k < blocks {
-        let to = block_end(out, k, from, payments);
-        let found = in_block(s, tree, out, tree::number(out, k), from, to);
+        let to = block_end(order, k, from, payments);
+        let found = in_block(s, tree, order, rule_limits::block(order, k), from, to);
         let Finding::Nothing = found else {
             return found;
         };
@@ -147,31 +139,31 @@ fn in_blocks(s: &[u8], tree: &[u16], out: &[u16], blocks: usize, payments: usize
 }
 
 // 12 and 13 of the header, whose numbers cover the whole message.
-fn in_header(s: &[u8], tree: &[u16], payments: usize, total: u64) -> Finding
-    ensures { λ r. ⌜ ((root : Element) (next : ℕ) → Laid (now (s .entry)) (now (tree .entry)) root 0 next → ReadCount (of-header 6 root) → ReadMoney (of-header 7 root)
+fn in_header(s: &[u8], tree: &Tree, payments: usize, total: u64) -> Finding
+    ensures { λ r. ⌜ ((root : Element) → LaidAt (now (s .entry)) (now (tree .entry)) 0 root → ReadCount (of-header 6 root) → ReadMoney (of-header 7 root)
         → refusal-found r ≡ header-refusal payments total root) ⌝ }
 {
-    let stated_count = tree_routes::follow3(s, tree, 0, b"CstmrCdtTrfInitn", b"GrpHdr", b"NbOfTxs");
+    let stated_count = tree_routes::follow(tree, Found::At(0), &[2, 3, 6]);
     let count_found = count_is(s, tree, stated_count, 6, payments);
-    let stated_sum = tree_routes::follow3(s, tree, 0, b"CstmrCdtTrfInitn", b"GrpHdr", b"CtrlSum");
+    let stated_sum = tree_routes::follow(tree, Found::At(0), &[2, 3, 7]);
     let sum_found = sum_is(s, tree, stated_sum, 7, Sum::Cents(total));
     first_found(count_found, sum_found)
 }
 
 // 12 and 13: header count, header sum, then each block's count and sum.
-pub fn counts(
+pub fn counts_refusal(
     s: &[u8],
-    tree: &[u16],
-    out: &[u16],
+    tree: &Tree,
+    order: &Order,
     blocks: usize,
     payments: usize,
     total: u64,
 ) -> Finding
-    ensures { λ r. ⌜ ((root : Element) (next : ℕ) → Laid (now (s .entry)) (now (tree .entry)) root 0 next
-        → Ordered (now (s .entry)) (now (tree .entry)) (now (out .entry)) root → blocks ≡ length (all-blocks root) → payments ≡ length (all-payments root) → payments ≤ 64
+    ensures { λ r. ⌜ ((root : Element) → LaidAt (now (s .entry)) (now (tree .entry)) 0 root
+        → Ordered (now (s .entry)) (now (tree .entry)) (now (order .entry)) root → blocks ≡ length (all-blocks root) → payments ≡ length (all-payments root) → payments ≤ 64 → blocks ≤ 16
         → total ≡ total-of root → Readable root → refusal-found r ≡ counts-refusal root) ⌝ }
 {
     let header = in_header(s, tree, payments, total);
-    let each = in_blocks(s, tree, out, blocks, payments);
+    let each = in_blocks(s, tree, order, blocks, payments);
     first_found(header, each)
 }

@@ -3,7 +3,7 @@ use Prim.Native.Nat.{ℕ, _+_, _≤_, _<_}
 use mathlib.Core.List.{List, [], _∷_, _++_}
 use mathlib.Core.Option.{Option, none, some}
 use mathlib.Core.Bool.{Bool, true, false, _||_, not, or-false}
-use mathlib.Core.Path.{_≡_, refl, sym, ap, _∙_, subst}
+use mathlib.Core.Path.{_≡_, refl, sym, ap, _∙_}
 use native.Mathlib.Omega.{arith}
 use lib.ListN.{length, getD, length-append}
 use Rattle.paper.specs.Bytes.{if_then_else_, same}
@@ -16,15 +16,15 @@ use Rattle.paper.specs.declared.Fault.{Fault}
 use Rattle.paper.specs.declared.Finding.{Finding}
 use Rattle.paper.specs.declared.Finding.the-variants as finding
 use Rattle.paper.proofs.Findings.{found-first}
-use Rattle.tree.specs.Laid.{Laid}
+use Rattle.tree.specs.Laid.{LaidAt}
 use Rattle.rule_limits.specs.Ordered.{BlocksAt, no-blocks, more-blocks, Ordered}
 use Rattle.tree_routes.specs.declared.Found.{Found}
 use Rattle.tree_routes.specs.declared.Found.the-variants.{At, Nothing}
 use Rattle.tree_routes.specs.Finds.{Finds}
 use Rattle.tree_routes.proofs.WhatIsFound.{found-none, found-some}
 use Rattle.rule_ids.specs.Ids.{with-id, with-ids, id-refusal}
-use Rattle.tree_leaves.proofs.Leaves.{later}
-use Rattle.rule_limits.proofs.First.{FirstBlock, first-block, no-block-left, one-fewer}
+use Rattle.rule_limits.proofs.First.{FirstBlock, first-block, no-block-left, stands-at, one-fewer}
+use Rattle.rule_limits.proofs.Refusing.{later}
 
 -- one id among those of a block, and among those of earlier blocks and one more
 or-nothing : (a b : Bool) → (a || b) ≡ ((a || false) || b)
@@ -54,17 +54,17 @@ unfolding among-texts with-id
 id-absent w found e = sym (rw (found-none found e))
 
 pub id-there : (w : List ℕ) {s tree u v : List ℕ} {o : Option Element} {f : Found} {i : ℕ} {r : Bool} → Finds s tree o f → f ≡ At i
-    → u ≡ w → ((t : Element) (next : ℕ) → Laid s tree t i next → v ≡ text-of t) → r ≡ same u v → r ≡ among-texts w (with-id [] o)
+    → u ≡ w → ((t : Element) → LaidAt s tree i t → v ≡ text-of t) → r ≡ same u v → r ≡ among-texts w (with-id [] o)
 unfolding among-texts with-id
 id-there w {v = v} {o} found e g h d =
     let t = found-some found e in
     let x : among-texts w (with-id [] o) ≡ among-texts w (text-of (t .it) ∷ []) = ap (λ (p : Option Element). among-texts w (with-id [] p)) (t .is-it) in
-    d ∙ ap (λ (a : List ℕ). same a v) g ∙ ap (same w) (h (t .it) (t .next) (t .laid)) ∙ sym (x ∙ or-false (same w (text-of (t .it))))
+    d ∙ ap (λ (a : List ℕ). same a v) g ∙ ap (same w) (h (t .it) (t .laid)) ∙ sym (x ∙ or-false (same w (text-of (t .it))))
 
 -- Block j is next, of k, and no block before it has the id.
-pub record Unmatched (s tree out w : List ℕ) (bs : List Element) (j k : ℕ) : Type 0 where
+pub record Unmatched (s tree order w : List ℕ) (bs : List Element) (j k : ℕ) : Type 0 where
   rest : List Element
-  rest-at : BlocksAt s tree out j rest
+  rest-at : BlocksAt s tree order j rest
   rest-many : k ≡ j + length rest
   earlier : List (List ℕ)
   ids-are : with-ids [] bs ≡ with-ids earlier rest
@@ -73,24 +73,24 @@ pub record Unmatched (s tree out w : List ℕ) (bs : List Element) (j k : ℕ) :
 -- what `has_id` answers
 abbrev pub HasId : (s tree : List ℕ) (block id : ℕ) (r : Bool) → Type 0
 HasId s tree block id r =
-    (b t : Element) (m n : ℕ) → Laid s tree b block m → Laid s tree t id n → r ≡ among-texts (text-of t) (with-id [] (child 11 b))
+    (b t : Element) → LaidAt s tree block b → LaidAt s tree id t → r ≡ among-texts (text-of t) (with-id [] (child 11 b))
 
-module _ {s tree out : List ℕ} where
-  pub unmatched : (w : List ℕ) {bs : List Element} {k : ℕ} → BlocksAt s tree out 0 bs → k ≡ length bs → Unmatched s tree out w bs 0 k
+module _ {s tree order : List ℕ} where
+  pub unmatched : (w : List ℕ) {bs : List Element} {k : ℕ} → BlocksAt s tree order 0 bs → k ≡ length bs → Unmatched s tree order w bs 0 k
   unfolding among-texts
   unmatched w {bs} at e = record { rest = bs; rest-at = at; rest-many = omega arith; earlier = []; ids-are = refl; not-among = refl }
 
-  module _ {t : Element} {bs : List Element} {j k id n block : ℕ} {r : Bool} (laid : Laid s tree t id n) (u : Unmatched s tree out (text-of t) bs j k)
-      (here : block ≡ getD out j 0) (h : j < k) (has : HasId s tree block id r) where
-    answer : (f : FirstBlock s tree out j (u .rest)) → r ≡ among-texts (text-of t) (with-id [] (child 11 (f .one)))
-    answer f = has (f .one) t (f .one-next) n (subst (λ (i : ℕ). Laid s tree (f .one) i (f .one-next)) (sym here) (f .one-laid)) laid
+  module _ {t : Element} {bs : List Element} {j k id block : ℕ} {r : Bool} (laid : LaidAt s tree id t) (u : Unmatched s tree order (text-of t) bs j k)
+      (here : block ≡ getD order j 0) (h : j < k) (has : HasId s tree block id r) where
+    answer : (f : FirstBlock s tree order j (u .rest)) → r ≡ among-texts (text-of t) (with-id [] (child 11 (f .one)))
+    answer f = has (f .one) t (stands-at here (f .one-laid)) laid
 
-    onward : (f : FirstBlock s tree out j (u .rest))
+    onward : (f : FirstBlock s tree order j (u .rest))
         → with-ids [] bs ≡ with-ids (with-id (u .earlier) (child 11 (f .one))) (f .others)
     unfolding with-ids
     onward f = u .ids-are ∙ ap (with-ids (u .earlier)) (f .first-is)
 
-    joined : (f : FirstBlock s tree out j (u .rest)) → among-texts (text-of t) (with-id (u .earlier) (child 11 (f .one))) ≡ r
+    joined : (f : FirstBlock s tree order j (u .rest)) → among-texts (text-of t) (with-id (u .earlier) (child 11 (f .one))) ≡ r
     joined f =
         among-more (text-of t) (u .earlier) (child 11 (f .one)) ∙ rw (← answer f, u .not-among) (or-false r)
 
@@ -99,7 +99,7 @@ module _ {s tree out : List ℕ} where
         let f = first-block (u .rest-at) (u .rest-many) h in
         sym (ap (among-texts (text-of t)) (onward f) ∙ still-among (text-of t) (with-id (u .earlier) (child 11 (f .one))) (f .others) (joined f ∙ e))
 
-    pub still-unmatched : r ≡ false → Unmatched s tree out (text-of t) bs (j + 1) k
+    pub still-unmatched : r ≡ false → Unmatched s tree order (text-of t) bs (j + 1) k
     still-unmatched e =
         let f = first-block (u .rest-at) (u .rest-many) h in
         record {
@@ -111,7 +111,7 @@ module _ {s tree out : List ℕ} where
           not-among = joined f ∙ e;
         }
 
-  pub never-matched : {w : List ℕ} {bs : List Element} {j k : ℕ} → Unmatched s tree out w bs j k → k ≤ j → false ≡ among-texts w (with-ids [] bs)
+  pub never-matched : {w : List ℕ} {bs : List Element} {j k : ℕ} → Unmatched s tree order w bs j k → k ≤ j → false ≡ among-texts w (with-ids [] bs)
   unfolding with-ids
   never-matched {w} u h =
       sym (ap (among-texts w) (u .ids-are ∙ ap (with-ids (u .earlier)) (no-block-left (u .rest-at) (u .rest-many) h)) ∙ u .not-among)
@@ -141,44 +141,45 @@ unfolding with-ids
 with-ids-last earlier [] b = refl
 with-ids-last earlier (x ∷ bs) b = with-ids-last (with-id earlier (child 11 x)) bs b
 
-blocks-and : {s tree out : List ℕ} {k n next : ℕ} {b : Element} {bs : List Element} → BlocksAt s tree out k bs → n ≡ k + length bs
-    → Laid s tree b (getD out n 0) next → BlocksAt s tree out k (bs ++ b ∷ [])
-blocks-and {s} {tree} {out} {k} {n} {next} {b} no-blocks e l =
-    more-blocks (subst (λ (m : ℕ). Laid s tree b (getD out m 0) next) (let x : n ≡ k = omega arith in x) l) no-blocks
+blocks-and : {s tree order : List ℕ} {k n : ℕ} {b : Element} {bs : List Element} → BlocksAt s tree order k bs → n ≡ k + length bs
+    → LaidAt s tree (getD order n 0) b → BlocksAt s tree order k (bs ++ b ∷ [])
+blocks-and {order = order} {k} {n} no-blocks e l =
+    let x : k ≡ n = omega arith in
+    more-blocks (stands-at (ap (λ (m : ℕ). getD order m 0) x) l) no-blocks
 blocks-and {k = k} {n} (more-blocks {bs = bs} x rest) e l = more-blocks x (blocks-and rest (let y : n ≡ k + 1 + length bs = omega arith in y) l)
 
 -- Before the id of block k, of n blocks: what is left decides.
-pub record BeforeId (s tree out : List ℕ) (root : Element) (k n : ℕ) : Type 0 where
+pub record BeforeId (s tree order : List ℕ) (root : Element) (k n : ℕ) : Type 0 where
   before : List Element
-  before-at : BlocksAt s tree out 0 before
+  before-at : BlocksAt s tree order 0 before
   before-many : k ≡ length before
   rest : List Element
-  rest-at : BlocksAt s tree out k rest
+  rest-at : BlocksAt s tree order k rest
   rest-many : n ≡ k + length rest
   refusal-is : ids-refusal root ≡ repeated (with-ids [] before) rest
 
 -- what `id_at` answers at block k
-abbrev pub IdAt : (s tree out : List ℕ) (k : ℕ) (f : Finding) → Type 0
-IdAt s tree out k f =
-    (bs : List Element) (b : Element) (n : ℕ) → BlocksAt s tree out 0 bs → k ≡ length bs → Laid s tree b (getD out k 0) n
+abbrev pub IdAt : (s tree order : List ℕ) (k : ℕ) (f : Finding) → Type 0
+IdAt s tree order k f =
+    (bs : List Element) (b : Element) → BlocksAt s tree order 0 bs → k ≡ length bs → k < 16 → LaidAt s tree (getD order k 0) b
     → refusal-found f ≡ id-refusal (with-ids [] bs) b
 
-module _ {s tree out : List ℕ} {root : Element} where
-  pub before-ids : {n : ℕ} → Ordered s tree out root → n ≡ length (blocks root) → BeforeId s tree out root 0 n
+module _ {s tree order : List ℕ} {root : Element} where
+  pub before-ids : {n : ℕ} → Ordered s tree order root → n ≡ length (blocks root) → BeforeId s tree order root 0 n
   unfolding ids-refusal with-ids
   before-ids o e =
       record { before = []; before-at = no-blocks; before-many = refl; rest = blocks root; rest-at = o .blocks-at; rest-many = omega arith; refusal-is = refl }
 
-  module _ {k n : ℕ} (w : BeforeId s tree out root k n) where
+  module _ {k n : ℕ} (w : BeforeId s tree order root k n) where
     pub no-id-left : n ≤ k → refusal-found finding.Nothing ≡ ids-refusal root
     unfolding refusal-found repeated
     no-id-left h = sym (w .refusal-is ∙ ap (repeated (with-ids [] (w .before))) (no-block-left (w .rest-at) (w .rest-many) h))
 
-    module _ (f : Finding) (h : k < n) (at : IdAt s tree out k f) where
-      here : (x : FirstBlock s tree out k (w .rest)) → refusal-found f ≡ id-refusal (with-ids [] (w .before)) (x .one)
-      here x = at (w .before) (x .one) (x .one-next) (w .before-at) (w .before-many) (x .one-laid)
+    module _ (f : Finding) (h : k < n) (few : n ≤ 16) (at : IdAt s tree order k f) where
+      here : (x : FirstBlock s tree order k (w .rest)) → refusal-found f ≡ id-refusal (with-ids [] (w .before)) (x .one)
+      here x = at (w .before) (x .one) (w .before-at) (w .before-many) (omega arith) (x .one-laid)
 
-      split : (x : FirstBlock s tree out k (w .rest)) → ids-refusal root ≡
+      split : (x : FirstBlock s tree order k (w .rest)) → ids-refusal root ≡
           id-refusal (with-ids [] (w .before)) (x .one) or-else
           repeated (with-id (with-ids [] (w .before)) (child 11 (x .one))) (x .others)
       split x = w .refusal-is ∙ ap (repeated (with-ids [] (w .before))) (x .first-is) ∙ repeated-is (with-ids [] (w .before)) (x .one) (x .others)
@@ -189,7 +190,7 @@ module _ {s tree out : List ℕ} {root : Element} where
           found-first (id-refusal (with-ids [] (w .before)) (x .one))
           (repeated (with-id (with-ids [] (w .before)) (child 11 (x .one))) (x .others)) f (here x) e ∙ sym (split x)
 
-      pub id-passed : f ≡ finding.Nothing → BeforeId s tree out root (k + 1) n
+      pub id-passed : f ≡ finding.Nothing → BeforeId s tree order root (k + 1) n
       id-passed e =
           let x = first-block (w .rest-at) (w .rest-many) h in
           let y : k + 1 ≡ length (w .before ++ x .one ∷ []) = omega (arith, w .before-many, length-append (w .before) (x .one ∷ [])) in

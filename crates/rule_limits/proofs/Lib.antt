@@ -1,3 +1,7 @@
 -- Laws that belong to no one function.
+pub mod Agreement
+mod Buffer
 pub mod First
-pub mod Walk
+mod NestedWalk
+pub mod Refusing
+mod Steps

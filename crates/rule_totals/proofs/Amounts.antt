@@ -1,85 +1,76 @@
--- What leaves say as numbers, and the exact sum of amounts, payment after payment.
-use Prim.Native.Nat.{ℕ, _+_, _*_, _-_, _^_, _≤_, _<_}
+-- The amount of a payment, and the exact sum of amounts, payment after payment.
+use Prim.Native.Nat.{ℕ, _+_, _-_, _^_, _≤_, _<_}
 use mathlib.Core.List.{List, [], _∷_, map}
 use mathlib.Core.Option.{Option, none, some}
 use mathlib.Core.Bool.{true, false}
 use mathlib.Core.Path.{_≡_, refl, sym, ap, _∙_, subst}
 use native.Mathlib.Omega.{arith}
-use lib.ListN.{length, getD}
+use lib.ListN.{length}
 use lib.Dec.{eqb}
 use borrow.Author.Tests.{ne-eqb, lt-ltb, le-ltb}
+use Rattle.paper.specs.Bytes.{every}
 use Rattle.paper.specs.Form.{Element}
-use Rattle.paper.specs.Values.{number, cents, money}
-use Rattle.paper.specs.Payments.{Payment, text-of, follow, of-header, payments, amount-of, sum-of, total}
-use Rattle.paper.specs.Refusals.{Refusal, refuse, at-of, total-refusal}
+use Rattle.paper.specs.Values.{cents, money}
+use Rattle.paper.specs.Payments.{Payment, text-of, follow, header-sum, instructed-amount, payments, amount-of, sum-of, total}
+use Rattle.paper.specs.Refusals.{refuse, at-of, total-refusal}
 use Rattle.paper.specs.Accepted.{All, all-more}
-use Rattle.paper.proofs.Laws.{some-not-none}
-use Rattle.tree.specs.Laid.{Laid}
-use Rattle.tree.proofs.Laws.{Cell, at-cell, entry-of}
-use Rattle.tree_routes.specs.Finds.{Finds}
-use Rattle.rule_limits.specs.Ordered.{PaymentAt, PaymentsAt, no-payments, more-payments}
+use Rattle.form_names.specs.Names.{is-row}
+use Rattle.tree.specs.Laid.{LaidAt}
+use Rattle.tree.proofs.Laws.{Cell, at-cell, entry-at}
+use Rattle.tree_routes.specs.Finds.{Finds, found-at, onward}
 use Rattle.tree_routes.specs.declared.Found.{Found}
 use Rattle.tree_routes.specs.declared.Found.the-variants.{At, Nothing}
+use Rattle.tree_routes.proofs.Laws.{onward-some}
 use Rattle.tree_routes.proofs.WhatIsFound.{found-none, found-some}
+use Rattle.rule_limits.specs.declared.PaymentAt.{PaymentAt}
+use Rattle.rule_limits.specs.Ordered.{PaymentsAt, payment-in}
+use Rattle.rule_limits.proofs.First.{FirstPayment, first-payment, no-payment-left, payment-there, one-fewer}
+use Rattle.tree_leaves.specs.Readable.{ReadMoney, ReadPayment}
 use Rattle.rule_totals.specs.declared.Sum.{Sum}
 use Rattle.rule_totals.specs.declared.Sum.the-variants as sum
-use Rattle.rule_totals.specs.declared.Total.{Total}
 use Rattle.rule_totals.specs.declared.Total.the-variants as totalled
-use Rattle.tree_leaves.specs.Readable.{ReadMoney, ReadPayment}
 use Rattle.rule_totals.specs.Totals.{Sums, sums-to, sums-above, Totals, total-is, total-above}
-use Rattle.tree_leaves.proofs.Leaves.{stands-at}
-use Rattle.rule_limits.proofs.First.{one-fewer}
 
--- the amount of a payment; where a leaf stands that must be there
+-- what `follow` finds from an element that is laid out
+pub route-found : {s tree : List ℕ} {i : ℕ} {f : Found} (route : List ℕ) {t : Element} → every is-row route ≡ true → LaidAt s tree i t
+    → ((o : Option Element) → every is-row route ≡ true → Finds s tree o (At i) → Finds s tree (onward route o) f) → Finds s tree (follow route t) f
+route-found {s} {tree} {f = f} route {t} rows l h =
+    subst (λ (o : Option Element). Finds s tree o f) (onward-some route t) (h (some t) rows (found-at l))
+
+-- the amount of a payment, by what was found
 amount-at : Option Element → ℕ
 amount-at none = 0
 amount-at (some u) = cents (text-of u)
 
-amount-is : (t : Element) → amount-of t ≡ amount-at (follow (41 ∷ 42 ∷ []) t)
+amount-is : (t : Element) → amount-of t ≡ amount-at (instructed-amount t)
 unfolding amount-of amount-at
-amount-is t = go (follow (41 ∷ 42 ∷ []) t)
+amount-is t = go (instructed-amount t)
   where
     go : (o : Option Element) → _≡_ {A = ℕ} (elim o [ none ↦ 0 | some u ↦ cents (text-of u) ]) (amount-at o)
     go none = refl
     go (some u) = refl
 
 module _ {s tree : List ℕ} {f : Found} where
-  pub amount-absent : (t : Element) → Finds s tree (follow (41 ∷ 42 ∷ []) t) f → f ≡ Nothing → 0 ≡ amount-of t
+  pub amount-absent : (t : Element) → Finds s tree (instructed-amount t) f → f ≡ Nothing → 0 ≡ amount-of t
   unfolding amount-at
   amount-absent t found e = sym (amount-is t ∙ ap amount-at (found-none found e))
 
-  pub amount-there : (t : Element) {i r : ℕ} → Finds s tree (follow (41 ∷ 42 ∷ []) t) f → f ≡ At i
-      → ((u : Element) (next : ℕ) → Laid s tree u i next → money (text-of u) ≡ true → r ≡ cents (text-of u))
-      → ReadMoney (follow (41 ∷ 42 ∷ []) t) → r ≡ amount-of t
+  pub amount-there : (t : Element) {i r : ℕ} → Finds s tree (instructed-amount t) f → f ≡ At i
+      → ((u : Element) → LaidAt s tree i u → money (text-of u) ≡ true → r ≡ cents (text-of u))
+      → ReadMoney (instructed-amount t) → r ≡ amount-of t
   unfolding amount-at
   amount-there t found e h read =
       let u = found-some found e in
-      h (u .it) (u .next) (u .laid) (read (u .it) (u .is-it)) ∙ sym (amount-is t ∙ ap amount-at (u .is-it))
+      h (u .it) (u .laid) (read (u .it) (u .is-it)) ∙ sym (amount-is t ∙ ap amount-at (u .is-it))
 
+  -- where that stands which was found
   pub at-nothing : {o : Option Element} → Finds s tree o f → f ≡ Nothing → 0 ≡ at-of o
   unfolding at-of
   at-nothing found e = sym (ap at-of (found-none found e))
 
   pub at-it : {o : Option Element} {i r : ℕ} → Finds s tree o f → f ≡ At i → Cell tree i 0 r → r ≡ at-of o
   unfolding at-of
-  at-it found e c = let u = found-some found e in at-cell (entry-of (u .laid)) c ∙ sym (ap at-of (u .is-it))
-
--- the first of the payments that stand from payment k on, and that none is left
-pub record FirstPayment (s tree out : List ℕ) (k : ℕ) (ps : List Payment) : Type 0 where
-  pub one : Payment
-  pub one-at : PaymentAt s tree out k one
-  pub others : List Payment
-  pub others-at : PaymentsAt s tree out (k + 1) others
-  pub first-is : ps ≡ one ∷ others
-
-module _ {s tree out : List ℕ} {n : ℕ} where
-  pub first-payment : {k : ℕ} {ps : List Payment} → PaymentsAt s tree out k ps → n ≡ k + length ps → k < n → FirstPayment s tree out k ps
-  first-payment no-payments e h = absurd (omega arith)
-  first-payment (more-payments {p = p} {ps} a rest) e h = record { one = p; one-at = a; others = ps; others-at = rest; first-is = refl }
-
-  pub no-payment-left : {k : ℕ} {ps : List Payment} → PaymentsAt s tree out k ps → n ≡ k + length ps → n ≤ k → ps ≡ []
-  no-payment-left no-payments e h = refl
-  no-payment-left (more-payments a rest) e h = absurd (omega arith)
+  at-it found e c = let u = found-some found e in at-cell (entry-at (u .laid)) c ∙ sym (ap at-of (u .is-it))
 
 -- the first of a list and the others have what all have
 module _ {A : Type 0} {P : A → Type 0} {a : A} {rest : List A} where
@@ -108,33 +99,32 @@ unfolding sum-of
 amounts-none = refl
 
 -- Payment k is next, up to payment n, and those before it come to a sum.
-pub record Summing (s tree out : List ℕ) (ps : List Payment) (done k n : ℕ) : Type 0 where
+pub record Summing (s tree order : List ℕ) (ps : List Payment) (done k n : ℕ) : Type 0 where
   rest : List Payment
-  rest-at : PaymentsAt s tree out k rest
+  rest-at : PaymentsAt s tree order k rest
   rest-many : n ≡ k + length rest
   rest-read : All ReadPayment rest
   sum-is : amounts ps ≡ done + amounts rest
 
 -- what `amount` answers
 abbrev pub AmountAt : (s tree : List ℕ) (own r : ℕ) → Type 0
-AmountAt s tree own r =
-    (t : Element) (next : ℕ) → Laid s tree t own next → ReadMoney (follow (41 ∷ 42 ∷ []) t) → r ≡ amount-of t
+AmountAt s tree own r = (t : Element) → LaidAt s tree own t → ReadMoney (instructed-amount t) → r ≡ amount-of t
 
-module _ {s tree out : List ℕ} {ps : List Payment} where
-  pub summing : {k n : ℕ} → PaymentsAt s tree out k ps → n ≡ k + length ps → All ReadPayment ps → Summing s tree out ps 0 k n
+module _ {s tree order : List ℕ} {ps : List Payment} where
+  pub summing : {k n : ℕ} → PaymentsAt s tree order k ps → n ≡ k + length ps → All ReadPayment ps → Summing s tree order ps 0 k n
   summing at e h = record { rest = ps; rest-at = at; rest-many = e; rest-read = h; sum-is = omega arith }
 
-  module _ {done k n own r : ℕ} (w : Summing s tree out ps done k n) (h : k < n) (few : n ≤ 64) (here : k < 64 → own ≡ getD out (16 + 3 * k) 0)
-      (says-amount : AmountAt s tree own r) where
-    with-one : (f : FirstPayment s tree out k (w .rest)) → amounts ps ≡ done + (r + amounts (f .others))
+  module _ {done k n r : ℕ} {q : PaymentAt} (w : Summing s tree order ps done k n) (h : k < n) (few : n ≤ 64) (here : k < 64 → q ≡ payment-in order k)
+      (says-amount : AmountAt s tree (q .own) r) where
+    with-one : (f : FirstPayment s tree order k (w .rest)) → amounts ps ≡ done + (r + amounts (f .others))
     with-one f =
         let p = f .one in
-        let laid = stands-at (here (omega arith)) (f .one-at .own-is) in
-        let x : r ≡ amount-of (p .own) = says-amount (p .own) (f .one-at .own-next) laid (first-has (f .first-is) (w .rest-read) .amount) in
+        let laid = payment-there (here (omega arith)) (f .one-there) .own-is in
+        let x : r ≡ amount-of (p .own) = says-amount (p .own) laid (first-has (f .first-is) (w .rest-read) .amount) in
         let y : amounts (w .rest) ≡ amount-of (p .own) + amounts (f .others) = ap amounts (f .first-is) ∙ amounts-more p (f .others) in
         w .sum-is ∙ ap (λ (m : ℕ). done + m) (y ∙ ap (λ (m : ℕ). m + amounts (f .others)) (sym x))
 
-    pub sum-goes : Summing s tree out ps (done + r) (k + 1) n
+    pub sum-goes : Summing s tree order ps (done + r) (k + 1) n
     sum-goes =
         let f = first-payment (w .rest-at) (w .rest-many) h in
         let x : done + (r + amounts (f .others)) ≡ done + r + amounts (f .others) = omega arith in
@@ -151,7 +141,7 @@ module _ {s tree out : List ℕ} {ps : List Payment} where
         let f = first-payment (w .rest-at) (w .rest-many) h in
         sums-above (omega (arith, with-one f))
 
-  pub sum-ends : {done k n : ℕ} → Summing s tree out ps done k n → n ≤ k → done < 2 ^ 64 → Sums (amounts ps) (sum.Cents done)
+  pub sum-ends : {done k n : ℕ} → Summing s tree order ps done k n → n ≤ k → done < 2 ^ 64 → Sums (amounts ps) (sum.Cents done)
   sum-ends {done} w h b =
       let x : amounts (w .rest) ≡ 0 = ap amounts (no-payment-left (w .rest-at) (w .rest-many) h) ∙ amounts-none in
       (let y : amounts ps ≡ done = omega (arith, w .sum-is, x) in sums-to y b)
@@ -166,32 +156,11 @@ module _ {root : Element} where
       total-is (rw (lt-ltb (amounts (payments root)) (2 ^ 64) y)) (e ∙ x)
   total-fits (sums-above h) d = let z : _≡_ {A = ℕ} 0 1 = cc in absurd (omega (arith, z))
 
-  pub total-exceeds : {a : Sum} {at : ℕ} → Sums (amounts (payments root)) a → a ≡ sum.TooLarge → at ≡ at-of (of-header 7 root)
+  pub total-exceeds : {a : Sum} {at : ℕ} → Sums (amounts (payments root)) a → a ≡ sum.TooLarge → at ≡ at-of (header-sum root)
       → Totals root (totalled.TooLarge at)
   unfolding total total-refusal
   total-exceeds (sums-to e b) d f = let z : _≡_ {A = ℕ} 0 1 = cc in absurd (omega (arith, z))
   total-exceeds {at = at} (sums-above h) d f = total-above {offset = at} (rw (le-ltb (amounts (payments root)) (2 ^ 64) h) (ap (refuse 21 7) (sym f)))
-
-same-above : (m n : ℕ) → refuse 21 7 m ≡ refuse 21 7 n → totalled.TooLarge m ≡ totalled.TooLarge n
-unfolding refuse
-same-above m n p =
-    let x : _≡_ {A = Refusal} (record { number = 21; element = 7; offset = m }) (record { number = 21; element = 7; offset = n }) = cc in
-    ap totalled.TooLarge (ap (λ (r : Refusal). r .offset) x)
-
--- Two answers that meet `total_cents`'s contract agree.
-pub totals-agree : {root : Element} {a b : Total} → Totals root a → Totals root b → a ≡ b
-unfolding refuse
-totals-agree (total-is p q) (total-is p' q') = cc
-totals-agree (total-is p q) (total-above p') = some-not-none (sym p' ∙ p)
-totals-agree (total-above p) (total-is p' q') = some-not-none (sym p ∙ p')
-totals-agree (total-above p) (total-above p') = same-above _ _ (sym p ∙ p')
-
--- Two answers that meet `sum_of`'s contract agree.
-pub sums-agree : {n : ℕ} {a b : Sum} → Sums n a → Sums n b → a ≡ b
-sums-agree (sums-to e h) (sums-to f k) = ap sum.Cents (sym e ∙ f)
-sums-agree (sums-to e h) (sums-above k) = absurd (omega arith)
-sums-agree (sums-above h) (sums-to f k) = absurd (omega arith)
-sums-agree (sums-above h) (sums-above k) = refl
 
 -- one number of cents and a sum
 module _ {n : ℕ} (c : ℕ) where

@@ -1,28 +1,34 @@
 // Refusals 9 and 10: rows 16, 36 and 34 in a payment and in its block.
 use paper::Fault;
 use paper::Finding;
+use rule_limits::Order;
+use tree::Tree;
+use tree_routes::Children;
 use tree_routes::Found;
 ghost use mathlib.Core.Path.{_≡_};
+ghost use mathlib.Core.List.{List};
+ghost use mathlib.Core.Bool.{true};
 ghost use Prim.Native.Nat.{ℕ, _≤_};
 ghost use lib.ListN.{length};
 ghost use Rattle.paper.specs.Form.{Element};
-ghost use Rattle.paper.specs.Rows.{name as name-of-row};
-ghost use Rattle.paper.specs.Payments.{Payment, payments};
+ghost use Rattle.paper.specs.Payments.{Payment, payments as all-payments};
 ghost use Rattle.paper.specs.Refusals.{in-both, in-neither, usage-of, usage-refusal};
 ghost use Rattle.paper.specs.Answers.{refusal-found};
-ghost use Rattle.tree.specs.Laid.{Laid};
+ghost use Rattle.form_names.specs.Names.{is-row};
+ghost use Rattle.tree.specs.Laid.{LaidAt};
+ghost use Rattle.tree_routes.specs.Finds.{ByName};
 ghost use Rattle.rule_limits.specs.Ordered.{Ordered};
 
-// 9: the row of this name stands in the payment `own` and in its block.
-fn in_both(s: &[u8], tree: &[u16], own: usize, block: usize, row: usize, name: &[u8]) -> Finding
-    ensures { λ r. ⌜ ((p : Payment) (m n : ℕ) → Laid (now (s .entry)) (now (tree .entry)) (p .own) own m → Laid (now (s .entry)) (now (tree .entry)) (p .block) block n
-        → now (name .entry) ≡ name-of-row row → refusal-found r ≡ in-both row p) ⌝ }
+// 9: the row stands in the payment and in its block.
+fn in_both(tree: &Tree, own: &Children, block: &Children, row: usize) -> Finding
+    ensures { λ r. ⌜ ((s : List ℕ) (p : Payment) → is-row row ≡ true → ByName s (now (tree .entry)) (p .own) (now (own .entry))
+        → ByName s (now (tree .entry)) (p .block) (now (block .entry)) → refusal-found r ≡ in-both row p) ⌝ }
 {
-    let mine = tree_routes::child(s, tree, own, name);
+    let mine = tree_routes::first(own, row);
     let Found::At(i) = mine else {
         return Finding::Nothing;
     };
-    let theirs = tree_routes::child(s, tree, block, name);
+    let theirs = tree_routes::first(block, row);
     let Found::At(_) = theirs else {
         return Finding::Nothing;
     };
@@ -32,57 +38,58 @@ fn in_both(s: &[u8], tree: &[u16], own: usize, block: usize, row: usize, name: &
     })
 }
 
-// 10: row 16 stands in neither.
-fn in_neither(s: &[u8], tree: &[u16], own: usize, block: usize) -> Finding
-    ensures { λ r. ⌜ ((p : Payment) (m n : ℕ) → Laid (now (s .entry)) (now (tree .entry)) (p .own) own m → Laid (now (s .entry)) (now (tree .entry)) (p .block) block n
-        → refusal-found r ≡ in-neither 16 p) ⌝ }
+// 10: row 16 stands in neither. The payment's element is `at`.
+fn in_neither(tree: &Tree, at: usize, own: &Children, block: &Children) -> Finding
+    ensures { λ r. ⌜ ((s : List ℕ) (p : Payment) → LaidAt s (now (tree .entry)) at (p .own) → ByName s (now (tree .entry)) (p .own) (now (own .entry))
+        → ByName s (now (tree .entry)) (p .block) (now (block .entry)) → refusal-found r ≡ in-neither 16 p) ⌝ }
 {
-    let mine = tree_routes::child(s, tree, own, b"PmtTpInf");
+    let mine = tree_routes::first(own, 16);
     if let Found::At(_) = mine {
         return Finding::Nothing;
     }
-    let theirs = tree_routes::child(s, tree, block, b"PmtTpInf");
+    let theirs = tree_routes::first(block, 16);
     if let Found::At(_) = theirs {
         return Finding::Nothing;
     }
     Finding::Refused(Fault::InNeither {
-        offset: tree::cell(tree, own, 0),
+        offset: tree::cell(tree, at, 0),
     })
 }
 
-// 9 and 10 of one payment: 16, 36, 34.
-fn in_payment(s: &[u8], tree: &[u16], own: usize, block: usize) -> Finding
-    ensures { λ r. ⌜ ((p : Payment) (m n : ℕ) → Laid (now (s .entry)) (now (tree .entry)) (p .own) own m → Laid (now (s .entry)) (now (tree .entry)) (p .block) block n
+// 9 and 10 of the payment whose element is `at`: 16, 36, 34.
+fn in_payment(tree: &Tree, at: usize, block: &Children) -> Finding
+    ensures { λ r. ⌜ ((s : List ℕ) (p : Payment) → LaidAt s (now (tree .entry)) at (p .own) → ByName s (now (tree .entry)) (p .block) (now (block .entry))
         → refusal-found r ≡ usage-of p) ⌝ }
 {
-    let types = in_both(s, tree, own, block, 16, b"PmtTpInf");
+    let own = tree_routes::by_name(tree, at);
+    let types = in_both(tree, &own, block, 16);
     let Finding::Nothing = types else {
         return types;
     };
-    let no_type = in_neither(s, tree, own, block);
+    let no_type = in_neither(tree, at, &own, block);
     let Finding::Nothing = no_type else {
         return no_type;
     };
-    let charges = in_both(s, tree, own, block, 36, b"ChrgBr");
+    let charges = in_both(tree, &own, block, 36);
     let Finding::Nothing = charges else {
         return charges;
     };
-    in_both(s, tree, own, block, 34, b"UltmtDbtr")
+    in_both(tree, &own, block, 34)
 }
 
-// 9 and 10: one walk over the payments, in their order.
-pub fn usage(s: &[u8], tree: &[u16], order: &[u16], many: usize) -> Finding
-    ensures { λ r. ⌜ ((root : Element) → Ordered (now (s .entry)) (now (tree .entry)) (now (order .entry)) root → many ≡ length (payments root) → many ≤ 64
+// 9 and 10: one walk over the payments, in their order. The first children of a block are known while the block stays the same; of no element at first.
+pub fn usage_refusal(tree: &Tree, order: &Order, payments: usize) -> Finding
+    ensures { λ r. ⌜ ((s : List ℕ) (root : Element) → Ordered s (now (tree .entry)) (now (order .entry)) root → payments ≡ length (all-payments root) → payments ≤ 64
         → refusal-found r ≡ usage-refusal root) ⌝ }
 {
     let mut k = 0;
-    while k < many {
-        if 64 <= k {
-            return Finding::Nothing;
-        }
-        let own = tree::number(order, 16 + 3 * k);
-        let block = tree::number(order, 17 + 3 * k);
-        let found = in_payment(s, tree, own, block);
+    let mut known = tree::ELEMENTS;
+    let mut block = tree_routes::by_name(tree, known);
+    while k < payments {
+        let payment = rule_limits::payment(order, k);
+        block = tree_routes::by_name_again(tree, payment.block, known, block);
+        known = payment.block;
+        let found = in_payment(tree, payment.own, &block);
         let Finding::Nothing = found else {
             return found;
         };

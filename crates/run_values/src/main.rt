@@ -9,7 +9,7 @@ fn say(text: &[u8]) {
     io::write_all(STDOUT_FILENO, text);
 }
 
-// Prints the answer on a line's value, and the line.
+// Prints the answer on a line's value, of which nothing is known before, and the line.
 fn judge(line: &[u8]) {
     if line.len() < 14 {
         return;
@@ -17,7 +17,7 @@ fn judge(line: &[u8]) {
     let row = leaf_numbers::number(&line[0..2]) as usize;
     let parent = leaf_numbers::number(&line[3..5]) as usize;
     let longest = leaf_numbers::number(&line[6..9]) as usize;
-    match leaf_values::leaf(parent, row, longest, &line[10..13], &line[14..]) {
+    match leaf_values::leaf(parent, row, longest, &line[10..13], &line[14..], 0) {
         Judgement::Fine => say(b"fine "),
         Judgement::EmptyOrTooLong => say(b"6 "),
         Judgement::NotInTheSet { at } => {

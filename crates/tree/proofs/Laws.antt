@@ -1,49 +1,102 @@
--- What is read from an entry of the tree.
-use Prim.Native.Nat.{ℕ, _+_, _≤_, _<_}
+-- What is read from an entry of the tree; the numbers of the rows' names.
+use Prim.Native.Nat.{ℕ, _≤_, _<_}
 use mathlib.Core.List.{List}
-use mathlib.Core.Bool.{Bool}
-use mathlib.Core.Path.{_≡_, ap, _∙_}
+use mathlib.Core.Bool.{Bool, true, false}
+use mathlib.Core.Path.{_≡_, refl, sym, ap, _∙_}
 use native.Mathlib.Omega.{arith}
-use lib.ListN.{length}
-use Rattle.paper.specs.Bytes.{same}
+use lib.Dec.{eqb}
+use borrow.Author.Tests.{eqb-true, ne-eqb}
+use Rattle.paper.specs.Bytes.{if_then_else_, bytes, same}
 use Rattle.paper.specs.Form.{Head, Element}
-use Rattle.paper.specs.Rows.{head-of}
-use Rattle.tree.specs.Laid.{cell-of, between, Entry, Laid, laid-text, laid-elements}
+use Rattle.paper.specs.Rows.{leaf, group, group-under, rows, name-in, name, head-of}
+use Rattle.form_names.specs.Names.{number-in, name-number, is-row}
+use Rattle.form_names.proofs.Laws.{each-number, row-says, same-number}
+use Rattle.tree.specs.Laid.{cell-of, Entry, Laid, laid-text, laid-elements, LaidAt}
 
 -- a number of the entry, as `cell` answers it
 abbrev pub Cell : (tree : List ℕ) (i k r : ℕ) → Type 0
-Cell tree i k r = i < 16384 → k < 5 → r ≡ cell-of tree i k
+Cell tree i k r = i < 4700 → k < 6 → r ≡ cell-of tree i k
 
 module _ {s tree : List ℕ} {i next : ℕ} {h : Head} (e : Entry s tree i h next) where
-  pub few-enough : i < 16384
-  few-enough = omega (arith, e .few, e .after-it)
+  pub few-enough : i < 4700
+  few-enough = omega (arith, e .numbers .few, e .numbers .after-it)
 
   pub at-cell : {r : ℕ} → Cell tree i 0 r → r ≡ h .at
-  at-cell c = c few-enough (omega arith) ∙ e .at-is
+  at-cell c = c few-enough (omega arith) ∙ e .numbers .at-is
 
-  pub name-end-cell : {r : ℕ} → Cell tree i 1 r → r ≡ h .at + 1 + length (h .name)
-  name-end-cell c = c few-enough (omega arith) ∙ e .name-end-is
+  pub name-cell : {r : ℕ} → Cell tree i 1 r → r ≡ name-number (h .name)
+  name-cell c = c few-enough (omega arith) ∙ e .numbers .name-is
 
   pub start-cell : {r : ℕ} → Cell tree i 2 r → r ≡ h .start
-  start-cell c = c few-enough (omega arith) ∙ e .start-is
+  start-cell c = c few-enough (omega arith) ∙ e .numbers .start-is
 
   pub close-cell : {r : ℕ} → Cell tree i 3 r → r ≡ h .close
-  close-cell c = c few-enough (omega arith) ∙ e .close-is
+  close-cell c = c few-enough (omega arith) ∙ e .numbers .close-is
 
   pub next-cell : {r : ℕ} → Cell tree i 4 r → r ≡ next
-  next-cell c = c few-enough (omega arith) ∙ e .next-is
+  next-cell c = c few-enough (omega arith) ∙ e .numbers .next-is
 
-  -- the name, compared as a part of the message
-  pub named : {at end : ℕ} {r : Bool} (name : List ℕ) → Cell tree i 0 at → Cell tree i 1 end
-      → (at + 1 ≤ end → end ≤ length s → r ≡ same (between (at + 1) end s) name) → r ≡ same (h .name) name
-  named {at} {end} name a n f =
-      let p = at-cell a in
-      let q = name-end-cell n in
-      let x : between (at + 1) end s ≡ h .name = rw (p, q) (e .written .name-is) in
-      f (omega (arith, p, q)) (omega (arith, p, q, e .written .name-inside, e .written .start-first, e .written .close-inside)) ∙ ap (λ (w : List ℕ). same w name) x
+  pub known-cell : {r : ℕ} → Cell tree i 5 r → r ≡ cell-of tree i 5
+  known-cell c = c few-enough (omega arith)
+
+  -- the name, compared by its number with that of a row's name
+  pub named : {r n : ℕ} (k : ℕ) → is-row k ≡ true → Cell tree i 1 r → n ≡ name-number (name k) → eqb r n ≡ same (h .name) (name k)
+  named {n} k y c f = ap (λ z. eqb z n) (name-cell c) ∙ (ap (λ z. eqb (name-number (h .name)) z) f ∙ same-number (h .name) k y)
 
 -- an element that is laid out has its head's entry
 pub entry-of : {s tree : List ℕ} {t : Element} {i next : ℕ} → Laid s tree t i next → Entry s tree i (head-of t) next
 unfolding head-of
 entry-of (laid-text e n w) = e
 entry-of (laid-elements e n all) = e
+
+pub entry-at : {s tree : List ℕ} {t : Element} {i : ℕ} (l : LaidAt s tree i t) → Entry s tree i (head-of t) (l .next)
+entry-at l = entry-of (l .laid)
+
+-- No element is laid out behind the last.
+pub none-behind : {s tree : List ℕ} {t : Element} → LaidAt s tree 4700 t → ⊥
+none-behind l = let f = few-enough (entry-at l) in omega (arith, f)
+
+-- The rows whose names earlier rows have; every other row is the first of its name.
+unfoldable later : ℕ → Bool
+later k = if eqb k 14 then true else if eqb k 15 then true else if eqb k 21 then true else if eqb k 25 then true else if eqb k 33 then true else eqb k 35
+
+unfoldable first-or-later : ℕ → Bool
+first-or-later k = if later k then true else eqb k (name-number (name k))
+
+firsts : each-number first-or-later 55 1 ≡ true
+unfolding each-number first-or-later later name-number number-in name rows group same name-in bytes leaf group-under
+firsts = refl
+
+module _ (k : ℕ) (a : k ≡ 14 → ⊥) (b : k ≡ 15 → ⊥) (c : k ≡ 21 → ⊥) (d : k ≡ 25 → ⊥) (e : k ≡ 33 → ⊥) (f : k ≡ 35 → ⊥) where
+  not-later : first-or-later k ≡ eqb k (name-number (name k))
+  unfolding first-or-later later
+  not-later = rw (ne-eqb k 14 a, ne-eqb k 15 b, ne-eqb k 21 c, ne-eqb k 25 d, ne-eqb k 33 e, ne-eqb k 35 f)
+
+  pub its-own : is-row k ≡ true → k ≡ name-number (name k)
+  its-own r = eqb-true k (name-number (name k)) (sym not-later ∙ row-says first-or-later firsts k r)
+
+-- the others
+module _ where
+  pub row-14 : 6 ≡ name-number (name 14)
+  unfolding name-number number-in name rows group same name-in bytes leaf group-under
+  row-14 = refl
+
+  pub row-15 : 7 ≡ name-number (name 15)
+  unfolding name-number number-in name rows group same name-in bytes leaf group-under
+  row-15 = refl
+
+  pub row-21 : 19 ≡ name-number (name 21)
+  unfolding name-number number-in name rows group same name-in bytes leaf group-under
+  row-21 = refl
+
+  pub row-25 : 9 ≡ name-number (name 25)
+  unfolding name-number number-in name rows group same name-in bytes leaf group-under
+  row-25 = refl
+
+  pub row-33 : 27 ≡ name-number (name 33)
+  unfolding name-number number-in name rows group same name-in bytes leaf group-under
+  row-33 = refl
+
+  pub row-35 : 9 ≡ name-number (name 35)
+  unfolding name-number number-in name rows group same name-in bytes leaf group-under
+  row-35 = refl

@@ -1,128 +1,99 @@
-// Where the seventeen fields of a payment stand in the laid-out tree of a message.
+// Where the seventeen fields of a payment stand in the laid-out tree of a message: a table of routes.
+use tree::Tree;
+use tree_routes::Children;
 use tree_routes::Found;
-ghost use mathlib.Core.List.{[], _∷_};
-ghost use mathlib.Core.Option.{some};
-ghost use Prim.Native.Nat.{ℕ, _<_, _≤_};
-ghost use Rattle.paper.specs.Bytes.{bytes};
+ghost use mathlib.Core.Path.{_≡_};
+ghost use mathlib.Core.Bool.{true};
+ghost use mathlib.Core.List.{List};
+ghost use Prim.Native.Nat.{ℕ};
+ghost use Rattle.paper.specs.Bytes.{every};
 ghost use Rattle.paper.specs.Form.{Element};
-ghost use Rattle.paper.specs.Payments.{either-of};
-ghost use Rattle.tree.specs.Laid.{Laid};
-ghost use Rattle.tree_fields.specs.Fields.{FieldAt};
-ghost use Rattle.tree_routes.specs.Finds.{Finds, along};
+ghost use Rattle.paper.specs.Payments.{Payment, follow};
+ghost use Rattle.paper.specs.Fields.{field-element};
+ghost use Rattle.form_names.specs.Names.{is-row};
+ghost use Rattle.tree_routes.specs.Finds.{Finds, ByName};
+ghost use Rattle.tree_fields.specs.Routes.{RoutesAre, route-of, at-line, of-rows};
 
-// Field 7: the BIC of the debtor's agent, or its other id.
-fn debtor_agent(s: &[u8], tree: &[u16], block: usize) -> Found
-    ensures { λ r. ⌜ ((t : Element) (next : ℕ) → Laid (now (s .entry)) (now (tree .entry)) t block next
-        → Finds (now (s .entry)) (now (tree .entry)) (either-of (along (bytes "DbtrAgt" ∷ bytes "FinInstnId" ∷ bytes "BICFI" ∷ []) (some t))
-        (along (bytes "DbtrAgt" ∷ bytes "FinInstnId" ∷ bytes "Othr" ∷ bytes "Id" ∷ []) (some t))) r) ⌝ }
+// For each field where it stands (1 in the payment, 2 in its block, 3 in the payment or else in its block), the rows of its route, and the line of another
+// route that is followed where this one leads to nothing. A const table is made anew wherever it is used: make it once, and lend it.
+pub type Routes = [[u16; 6]; 20];
+
+const ROUTES: Routes = [
+    [0, 0, 0, 0, 0, 0], // no field
+    [2, 13, 0, 0, 0, 0], // 1 batch booking
+    [3, 16, 17, 0, 0, 0], // 2 priority
+    [3, 16, 20, 21, 0, 0], // 3 category purpose
+    [2, 22, 23, 0, 0, 0], // 4 execution date
+    [2, 24, 25, 0, 0, 0], // 5 debtor's name
+    [2, 26, 27, 28, 0, 0], // 6 debtor's IBAN
+    [2, 29, 30, 31, 0, 18], // 7 debtor's agent: BIC
+    [3, 34, 35, 0, 0, 0], // 8 ultimate debtor
+    [1, 38, 39, 0, 0, 0], // 9 instruction id
+    [1, 38, 40, 0, 0, 0], // 10 end-to-end id
+    [1, 41, 42, 0, 0, 0], // 11 amount
+    [1, 43, 30, 31, 0, 0], // 12 creditor's agent
+    [1, 44, 25, 0, 0, 0], // 13 creditor's name
+    [1, 45, 27, 28, 0, 0], // 14 creditor's IBAN
+    [1, 46, 35, 0, 0, 0], // 15 ultimate creditor
+    [1, 47, 21, 0, 0, 0], // 16 purpose
+    [1, 48, 49, 0, 0, 19], // 17 remittance: free text
+    [2, 29, 30, 32, 33, 0], // 7 the other: NOTPROVIDED
+    [1, 48, 50, 51, 55, 0], // 17 the other: reference
+];
+
+pub fn routes() -> Routes
+    ensures { λ r. ⌜ RoutesAre r ⌝ }
 {
-    let found = tree_routes::follow3(s, tree, block, b"DbtrAgt", b"FinInstnId", b"BICFI");
-    match found {
-        Found::At(i) => Found::At(i),
-        Found::Nothing => tree_routes::follow4(
-            s,
-            tree,
-            block,
-            b"DbtrAgt",
-            b"FinInstnId",
-            b"Othr",
-            b"Id",
-        ),
+    ROUTES
+}
+
+// A line's route, in an element whose first children are known.
+fn within(tree: &Tree, children: &Children, line: &[u16; 6]) -> Found
+    ensures { λ r. ⌜ ((s : List ℕ) (t : Element) → every is-row (route-of (now (line .entry))) ≡ true → ByName s (now (tree .entry)) t (now (children .entry))
+        → Finds s (now (tree .entry)) (follow (route-of (now (line .entry))) t) r) ⌝ }
+{
+    let first = tree_routes::first(children, tree::wide(line[1]));
+    let route = [line[2], line[3], line[4]];
+    tree_routes::follow(tree, first, &route)
+}
+
+// What a line of the table leads to, in a payment whose first children are known, and its block's.
+fn along(tree: &Tree, own: &Children, block: &Children, line: &[u16; 6]) -> Found
+    ensures { λ r. ⌜ ((s : List ℕ) (p : Payment) → of-rows (now (line .entry)) ≡ true → ByName s (now (tree .entry)) (p .own) (now (own .entry))
+        → ByName s (now (tree .entry)) (p .block) (now (block .entry)) → Finds s (now (tree .entry)) (at-line (now (line .entry)) p) r) ⌝ }
+{
+    match line[0] {
+        1 => within(tree, own, line),
+        2 => within(tree, block, line),
+        3 => tree_routes::either(within(tree, own, line), within(tree, block, line)),
+        _ => Found::Nothing,
     }
 }
 
-// Field 17: the free text, or the reference.
-fn remittance(s: &[u8], tree: &[u16], own: usize) -> Found
-    ensures { λ r. ⌜ ((t : Element) (next : ℕ) → Laid (now (s .entry)) (now (tree .entry)) t own next
-        → Finds (now (s .entry)) (now (tree .entry)) (either-of (along (bytes "RmtInf" ∷ bytes "Ustrd" ∷ []) (some t))
-        (along (bytes "RmtInf" ∷ bytes "Strd" ∷ bytes "CdtrRefInf" ∷ bytes "Ref" ∷ []) (some t))) r) ⌝ }
+// Where a field of the payment stands; nothing for a field that is not among the seventeen.
+pub fn field_at(
+    tree: &Tree,
+    routes: &Routes,
+    own: &Children,
+    block: &Children,
+    field: usize,
+) -> Found
+    ensures { λ r. ⌜ ((s : List ℕ) (p : Payment) → RoutesAre (now (routes .entry)) → ByName s (now (tree .entry)) (p .own) (now (own .entry))
+        → ByName s (now (tree .entry)) (p .block) (now (block .entry)) → Finds s (now (tree .entry)) (field-element field p) r) ⌝ }
 {
-    let found = tree_routes::follow2(s, tree, own, b"RmtInf", b"Ustrd");
-    match found {
-        Found::At(i) => Found::At(i),
-        Found::Nothing => tree_routes::follow4(
-            s,
-            tree,
-            own,
-            b"RmtInf",
-            b"Strd",
-            b"CdtrRefInf",
-            b"Ref",
-        ),
+    if 17 < field {
+        return Found::Nothing;
     }
-}
-
-// Fields 1 to 8, of the block or of payment and block.
-fn debtor_field(s: &[u8], tree: &[u16], own: usize, block: usize, field: usize) -> Found
-    ensures { λ r. ⌜ (field < 9 → FieldAt (now (s .entry)) (now (tree .entry)) own block field r) ⌝ }
-{
-    if field == 1 {
-        return tree_routes::child(s, tree, block, b"BtchBookg");
+    let found = along(tree, own, block, &routes[field]);
+    let Found::Nothing = found else {
+        return found;
+    };
+    let other = tree::wide(routes[field][5]);
+    if other == 0 {
+        return Found::Nothing;
     }
-    if field == 2 {
-        return tree_routes::inherited2(s, tree, own, block, b"PmtTpInf", b"InstrPrty");
+    if 20 <= other {
+        return Found::Nothing;
     }
-    if field == 3 {
-        return tree_routes::inherited3(s, tree, own, block, b"PmtTpInf", b"CtgyPurp", b"Cd");
-    }
-    if field == 4 {
-        return tree_routes::follow2(s, tree, block, b"ReqdExctnDt", b"Dt");
-    }
-    if field == 5 {
-        return tree_routes::follow2(s, tree, block, b"Dbtr", b"Nm");
-    }
-    if field == 6 {
-        return tree_routes::follow3(s, tree, block, b"DbtrAcct", b"Id", b"IBAN");
-    }
-    if field == 7 {
-        return debtor_agent(s, tree, block);
-    }
-    if field == 8 {
-        return tree_routes::inherited2(s, tree, own, block, b"UltmtDbtr", b"Nm");
-    }
-    Found::Nothing
-}
-
-// Fields 9 to 17, of the payment alone.
-fn payment_field(s: &[u8], tree: &[u16], own: usize, block: usize, field: usize) -> Found
-    ensures { λ r. ⌜ (9 ≤ field → FieldAt (now (s .entry)) (now (tree .entry)) own block field r) ⌝ }
-{
-    if field == 9 {
-        return tree_routes::follow2(s, tree, own, b"PmtId", b"InstrId");
-    }
-    if field == 10 {
-        return tree_routes::follow2(s, tree, own, b"PmtId", b"EndToEndId");
-    }
-    if field == 11 {
-        return tree_routes::follow2(s, tree, own, b"Amt", b"InstdAmt");
-    }
-    if field == 12 {
-        return tree_routes::follow3(s, tree, own, b"CdtrAgt", b"FinInstnId", b"BICFI");
-    }
-    if field == 13 {
-        return tree_routes::follow2(s, tree, own, b"Cdtr", b"Nm");
-    }
-    if field == 14 {
-        return tree_routes::follow3(s, tree, own, b"CdtrAcct", b"Id", b"IBAN");
-    }
-    if field == 15 {
-        return tree_routes::follow2(s, tree, own, b"UltmtCdtr", b"Nm");
-    }
-    if field == 16 {
-        return tree_routes::follow2(s, tree, own, b"Purp", b"Cd");
-    }
-    if field == 17 {
-        return remittance(s, tree, own);
-    }
-    Found::Nothing
-}
-
-// Where a field of the payment `own` in its block stands; nothing for a field that is not among the seventeen.
-pub fn field_at(s: &[u8], tree: &[u16], own: usize, block: usize, field: usize) -> Found
-    ensures { λ r. ⌜ FieldAt (now (s .entry)) (now (tree .entry)) own block field r ⌝ }
-{
-    if field < 9 {
-        return debtor_field(s, tree, own, block, field);
-    }
-    payment_field(s, tree, own, block, field)
+    along(tree, own, block, &routes[other])
 }

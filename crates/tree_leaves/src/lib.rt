@@ -1,16 +1,16 @@
 // What a leaf of the laid-out tree holds: its text, and the number that the text says.
 use leaf_numbers::Reading;
+use tree::Tree;
 ghost use mathlib.Core.Path.{_≡_};
 ghost use mathlib.Core.Bool.{true};
-ghost use Prim.Native.Nat.{ℕ, _<_};
 ghost use Rattle.paper.specs.Form.{Element};
 ghost use Rattle.paper.specs.Values.{number, cents, digits, money};
 ghost use Rattle.paper.specs.Payments.{text-of};
-ghost use Rattle.tree.specs.Laid.{Laid};
+ghost use Rattle.tree.specs.Laid.{LaidAt};
 
 // The text that element i holds; the empty part where it holds elements.
-pub fn text<'a>(s: &'a [u8], tree: &[u16], i: usize) -> &'a [u8]
-    ensures { λ r. ⌜ ((t : Element) (next : ℕ) → Laid (now (s .entry)) (now (tree .entry)) t i next → now r ≡ text-of t) ⌝ }
+pub fn text<'a>(s: &'a [u8], tree: &Tree, i: usize) -> &'a [u8]
+    ensures { λ r. ⌜ ((t : Element) → LaidAt (now (s .entry)) (now (tree .entry)) i t → now r ≡ text-of t) ⌝ }
 {
     let start = tree::cell(tree, i, 2);
     let close = tree::cell(tree, i, 3);
@@ -31,8 +31,8 @@ pub fn text<'a>(s: &'a [u8], tree: &[u16], i: usize) -> &'a [u8]
 }
 
 // The number of the count that element i holds.
-pub fn count_at(s: &[u8], tree: &[u16], i: usize) -> u64
-    ensures { λ r. ⌜ ((t : Element) (next : ℕ) → Laid (now (s .entry)) (now (tree .entry)) t i next → digits 1 15 (text-of t) ≡ true → r ≡ number (text-of t)) ⌝ }
+pub fn count_at(s: &[u8], tree: &Tree, i: usize) -> u64
+    ensures { λ r. ⌜ ((t : Element) → LaidAt (now (s .entry)) (now (tree .entry)) i t → digits 1 15 (text-of t) ≡ true → r ≡ number (text-of t)) ⌝ }
 {
     match leaf_numbers::count_number(text(s, tree, i)) {
         Reading::Not => 0,
@@ -41,8 +41,8 @@ pub fn count_at(s: &[u8], tree: &[u16], i: usize) -> u64
 }
 
 // The cents of the money that element i holds.
-pub fn cents_at(s: &[u8], tree: &[u16], i: usize) -> u64
-    ensures { λ r. ⌜ ((t : Element) (next : ℕ) → Laid (now (s .entry)) (now (tree .entry)) t i next → money (text-of t) ≡ true → r ≡ cents (text-of t)) ⌝ }
+pub fn cents_at(s: &[u8], tree: &Tree, i: usize) -> u64
+    ensures { λ r. ⌜ ((t : Element) → LaidAt (now (s .entry)) (now (tree .entry)) i t → money (text-of t) ≡ true → r ≡ cents (text-of t)) ⌝ }
 {
     match leaf_money::money_cents(text(s, tree, i)) {
         Reading::Not => 0,

@@ -1,122 +1,98 @@
--- What is found by names in a laid-out tree is what the paper finds by rows.
+-- What is found by rows in a laid-out tree: the elements of a row's name, one after the other, and what stands at the end of a route.
 use Prim.Native.Nat.{ℕ, _+_, _≤_, _<_}
 use mathlib.Core.List.{List, [], _∷_}
 use mathlib.Core.Option.{Option, none, some}
-use mathlib.Core.Bool.{Bool, true, false}
+use mathlib.Core.Bool.{true, false, _&&_}
 use mathlib.Core.Path.{_≡_, refl, sym, ap, _∙_, subst}
+use native.Mathlib.Numerals.{add-one}
 use native.Mathlib.Omega.{arith}
-use Rattle.paper.specs.Bytes.{same}
-use Rattle.paper.specs.Form.{Head, Element, Elements, []ᵉ, _∷ᵉ_}
+use lib.ListN.{length, getD, drop, drop-of-length-le}
+use lib.Seq.{drop-cons}
+use borrow.Author.Tests.{eq-eqb, ne-eqb}
+use Rattle.paper.specs.Bytes.{same, every}
+use Rattle.paper.specs.Form.{Element, Elements, []ᵉ, _∷ᵉ_}
 use Rattle.paper.specs.Rows.{head-of, name}
-use Rattle.paper.specs.Payments.{listed, children, all-named, all-of, follow, either-of}
-use Rattle.paper.specs.Payments.{child as child-row}
-use Rattle.tree.specs.Laid.{Entry, Laid, LaidAll, laid-text, laid-elements, laid-none, laid-more}
-use Rattle.tree.proofs.Laws.{Cell, next-cell, entry-of}
-use Rattle.tree_routes.specs.Finds.{Finds, found-at, found-nothing, SamePlace, same-at, same-nothing, with-name, first-of, child-named, child-under, along, names-of, Next, no-more, one-more}
+use Rattle.paper.specs.Payments.{listed, children, all-named, all-of, child, follow}
+use Rattle.paper.proofs.Laws.{both-left, both-right}
+use Rattle.form_names.specs.Names.{name-number, is-row}
+use Rattle.tree.specs.Laid.{Laid, LaidAll, laid-text, laid-elements, laid-none, laid-more}
+use Rattle.tree.proofs.Laws.{Cell, named, next-cell, entry-of}
+use Rattle.tree_routes.specs.Finds.{Finds, found-at, found-nothing, Next, no-more, one-more, rows-in, onward}
 use Rattle.tree_routes.specs.declared.Found.{Found}
 use Rattle.tree_routes.specs.declared.Found.the-variants.{At, Nothing}
 
--- rows by their names
-pub named-is : (k : ℕ) (ts : List Element) → all-named k ts ≡ with-name (name k) ts
-unfolding all-named with-name
-named-is k [] = refl
-named-is k (t ∷ ts) = rw (named-is k ts)
-
-pub all-is : (k : ℕ) (t : Element) → all-of k t ≡ with-name (name k) (children t)
-unfolding all-of
-all-is k t = named-is k (children t)
-
-pub child-is : (k : ℕ) (t : Element) → child-row k t ≡ child-named (name k) t
-unfolding child-row child-named first-of
-child-is k t = go (all-of k t) refl ∙ ap first-of (all-is k t)
-  where
-    go : (ts : List Element) → all-of k t ≡ ts → _≡_ {A = Option Element} (elim ts [ [] ↦ none | u ∷ us ↦ some u ]) (first-of ts)
-    go [] e = refl
-    go (u ∷ us) e = refl
-
-pub along-none : (names : List (List ℕ)) → along names none ≡ none
-unfolding along child-under
-along-none [] = refl
-along-none (w ∷ names) = along-none names
-
-pub follow-is : (route : List ℕ) (t : Element) → follow route t ≡ along (names-of route) (some t)
-unfolding follow along names-of child-under
-follow-is [] t = refl
-follow-is (k ∷ ks) t = go (child-row k t) (λ u. follow-is ks u) ∙ ap (along (names-of ks)) (child-is k t)
-  where
-    go : (o : Option Element) → ((u : Element) → follow ks u ≡ along (names-of ks) (some u)) →
-        _≡_ {A = Option Element} (elim o [ none ↦ none | some u ↦ follow ks u ]) (along (names-of ks) o)
-    go none f = sym (along-none (names-of ks))
-    go (some u) f = f u
-
 -- one element of several, by its name
-pub with-takes : (name : List ℕ) (t : Element) (ts : Elements) → same (head-of t .name) name ≡ true
-    → with-name name (listed (t ∷ᵉ ts)) ≡ t ∷ with-name name (listed ts)
-unfolding with-name listed
-with-takes name t ts e = rw e
+module _ (k : ℕ) (t : Element) (ts : Elements) where
+  pub all-takes : same (head-of t .name) (name k) ≡ true → all-named k (listed (t ∷ᵉ ts)) ≡ t ∷ all-named k (listed ts)
+  unfolding all-named listed
+  all-takes e = rw e
 
-pub with-passes : (name : List ℕ) (t : Element) (ts : Elements) → same (head-of t .name) name ≡ false
-    → with-name name (listed (t ∷ᵉ ts)) ≡ with-name name (listed ts)
-unfolding with-name listed
-with-passes name t ts e = rw e
+  pub all-passes : same (head-of t .name) (name k) ≡ false → all-named k (listed (t ∷ᵉ ts)) ≡ all-named k (listed ts)
+  unfolding all-named listed
+  all-passes e = rw e
 
-pub with-ends : (name : List ℕ) → with-name name (listed []ᵉ) ≡ []
-unfolding with-name listed
-with-ends name = refl
+pub all-ends : (k : ℕ) → all-named k (listed []ᵉ) ≡ []
+unfolding all-named listed
+all-ends k = refl
 
--- Elements laid out one after the other, some passed over: these are left, and of the name sought there are as many among them.
-pub record Left (s tree name : List ℕ) (ts : List Element) (i stop : ℕ) : Type 0 where
+-- the first of those of a row's name is the child of that row
+module _ (k : ℕ) (t : Element) where
+  pub child-none : all-of k t ≡ [] → child k t ≡ none
+  unfolding child
+  child-none e = rw (child, e)
+
+  pub child-first : {u : Element} {us : List Element} → all-of k t ≡ u ∷ us → child k t ≡ some u
+  unfolding child
+  child-first e = rw (child, e)
+
+-- Elements laid out one after the other, some passed over: these are left, and of the row's name there are as many among them.
+pub record Left (s tree : List ℕ) (k : ℕ) (ts : List Element) (i stop : ℕ) : Type 0 where
   pub left : Elements
   pub laid : LaidAll s tree left i stop
-  pub with-same : with-name name ts ≡ with-name name (listed left)
-
--- what `is_named` answers of element i
-abbrev pub NamedAs : (s tree name : List ℕ) (i : ℕ) (r : Bool) → Type 0
-NamedAs s tree name i r = (h : Head) (next : ℕ) → Entry s tree i h next → r ≡ same (h .name) name
+  pub as-many : all-named k ts ≡ all-named k (listed left)
 
 module _ {s tree : List ℕ} where
   pub goes-on : {ts : Elements} {i stop : ℕ} → LaidAll s tree ts i stop → i ≤ stop
   goes-on (laid-none e) = omega arith
-  goes-on (laid-more l all) = omega (arith, entry-of l .after-it, goes-on all)
+  goes-on (laid-more l all) = omega (arith, entry-of l .numbers .after-it, goes-on all)
 
-  module _ {name : List ℕ} {ts : List Element} {i stop : ℕ} where
-    pub passed : {next : ℕ} {r : Bool} → i < stop → NamedAs s tree name i r → r ≡ false → Cell tree i 4 next
-        → Left s tree name ts i stop → Left s tree name ts next stop
-    passed {next} {r} h n e c l = go (l .laid) (l .with-same)
-      where
-        go : {us : Elements} → LaidAll s tree us i stop → with-name name ts ≡ with-name name (listed us) → Left s tree name ts next stop
-        go (laid-none p) q = absurd (omega arith)
-        go (laid-more {t} {ts = us} {middle = middle} one all) q =
-            let x : same (head-of t .name) name ≡ false = sym (n (head-of t) middle (entry-of one)) ∙ e in
-            record {
-              left = us;
-              laid = subst (λ (m : ℕ). LaidAll s tree us m stop) (sym (next-cell (entry-of one) c)) all;
-              with-same = q ∙ with-passes name t us x;
-            }
+  module _ {k : ℕ} {ts : List Element} {i stop : ℕ} where
+    -- the element at i has another name, or this one
+    module _ {r number : ℕ} (y : is-row k ≡ true) (n : number ≡ name-number (name k)) (h : i < stop) (c : Cell tree i 1 r) where
+      pub passed : (r ≡ number → ⊥) → {next : ℕ} → Cell tree i 4 next → Left s tree k ts i stop → Left s tree k ts next stop
+      passed d {next} f l = go (l .laid) (l .as-many)
+        where
+          go : {us : Elements} → LaidAll s tree us i stop → all-named k ts ≡ all-named k (listed us) → Left s tree k ts next stop
+          go (laid-none p) q = absurd (omega arith)
+          go (laid-more {t} {ts = us} one all) q =
+              let x : same (head-of t .name) (name k) ≡ false = sym (named (entry-of one) k y c n) ∙ ne-eqb r number d in
+              record {
+                left = us;
+                laid = subst (λ (m : ℕ). LaidAll s tree us m stop) (sym (next-cell (entry-of one) f)) all;
+                as-many = q ∙ all-passes k t us x;
+              }
 
-    pub stands : {r : Bool} → i < stop → NamedAs s tree name i r → r ≡ true → Left s tree name ts i stop → Next s tree name (with-name name ts) i stop
-    stands {r} h n e l = go (l .laid) (l .with-same)
-      where
-        go : {us : Elements} → LaidAll s tree us i stop → with-name name ts ≡ with-name name (listed us) → Next s tree name (with-name name ts) i stop
-        go (laid-none p) q = absurd (omega arith)
-        go (laid-more {t} {ts = us} {middle = middle} one all) q =
-            let x : same (head-of t .name) name ≡ true = sym (n (head-of t) middle (entry-of one)) ∙ e in
-            let y : with-name name ts ≡ t ∷ with-name name (listed us) = q ∙ with-takes name t us x in
-            subst (λ (l : List Element). Next s tree name l i stop) (sym y) (one-more h one all)
+      pub stands : r ≡ number → Left s tree k ts i stop → Next s tree k (all-named k ts) i stop
+      stands e l = go (l .laid) (l .as-many)
+        where
+          go : {us : Elements} → LaidAll s tree us i stop → all-named k ts ≡ all-named k (listed us) → Next s tree k (all-named k ts) i stop
+          go (laid-none p) q = absurd (omega arith)
+          go (laid-more {t} {ts = us} one all) q =
+              let x : same (head-of t .name) (name k) ≡ true = sym (named (entry-of one) k y c n) ∙ eq-eqb r number e in
+              let z : all-named k ts ≡ t ∷ all-named k (listed us) = q ∙ all-takes k t us x in
+              subst (λ (l : List Element). Next s tree k l i stop) (sym z) (one-more h one all)
 
-    pub stuck : {next : ℕ} {A : Type 0} → i < stop → Cell tree i 4 next → next ≤ i → Left s tree name ts i stop → A
-    stuck {next} {A} h c b l = go (l .laid)
+    pub none-left : stop ≤ i → Left s tree k ts i stop → Next s tree k (all-named k ts) i stop
+    none-left h l = go (l .laid) (l .as-many)
       where
-        go : {us : Elements} → LaidAll s tree us i stop → A
-        go (laid-none p) = absurd (omega arith)
-        go (laid-more one all) = absurd (omega (arith, entry-of one .after-it, next-cell (entry-of one) c))
+        go : {us : Elements} → LaidAll s tree us i stop → all-named k ts ≡ all-named k (listed us) → Next s tree k (all-named k ts) i stop
+        go (laid-none p) q = subst (λ (l : List Element). Next s tree k l i stop) (sym (q ∙ all-ends k)) (no-more p)
+        go (laid-more one all) q = absurd (omega (arith, entry-of one .numbers .after-it, goes-on all))
 
-    pub none-left : stop ≤ i → Left s tree name ts i stop → Next s tree name (with-name name ts) i stop
-    none-left h l = go (l .laid) (l .with-same)
-      where
-        go : {us : Elements} → LaidAll s tree us i stop → with-name name ts ≡ with-name name (listed us) → Next s tree name (with-name name ts) i stop
-        go (laid-none p) q = subst (λ (l : List Element). Next s tree name l i stop) (sym (q ∙ with-ends name)) (no-more p)
-        go (laid-more one all) q = absurd (omega (arith, entry-of one .after-it, goes-on all))
+  -- an element ends after it begins
+  pub stuck : {A : Type 0} {ts : Elements} {i stop next : ℕ} → i < stop → Cell tree i 4 next → next ≤ i → LaidAll s tree ts i stop → A
+  stuck h c b (laid-none p) = absurd (omega arith)
+  stuck h c b (laid-more one all) = absurd (omega (arith, entry-of one .numbers .after-it, next-cell (entry-of one) c))
 
 -- the children of an element are laid out after it
 pub record Inside (s tree : List ℕ) (t : Element) (i next : ℕ) : Type 0 where
@@ -129,112 +105,134 @@ unfolding children listed
 inside (laid-text e n w) = record { inner = []ᵉ; inner-are = refl; inner-laid = laid-none (sym n) }
 inside (laid-elements {ts = ts} e n all) = record { inner = ts; inner-are = refl; inner-laid = all }
 
+pub all-inside : {s tree : List ℕ} {t : Element} {i next : ℕ} (k : ℕ) (l : Inside s tree t i next) → all-of k t ≡ all-named k (listed (l .inner))
+unfolding all-of
+all-inside k l = ap (all-named k) (l .inner-are)
+
 module _ {s tree : List ℕ} {t : Element} {i next stop : ℕ} (l : Laid s tree t i next) (c : Cell tree i 4 stop) where
   pub ends-at : stop ≡ next
   ends-at = next-cell (entry-of l) c
 
   pub ends-after : {A : Type 0} → stop ≤ i → A
-  ends-after h = absurd (omega (arith, ends-at, entry-of l .after-it))
+  ends-after h = absurd (omega (arith, ends-at, entry-of l .numbers .after-it))
 
-  pub first-inside : {name : List ℕ} {r : ℕ} → ((ts : Elements) → LaidAll s tree ts (i + 1) stop → Next s tree name (with-name name (listed ts)) r stop)
-      → Next s tree name (with-name name (children t)) r next
-  first-inside {name} {r} f =
-      let x : with-name name (listed (inside l .inner)) ≡ with-name name (children t) = ap (with-name name) (sym (inside l .inner-are)) in
-      let y : Next s tree name (with-name name (listed (inside l .inner))) r next =
-      subst (λ (m : ℕ). Next s tree name (with-name name (listed (inside l .inner))) r m) ends-at
-      (f (inside l .inner) (subst (λ (m : ℕ). LaidAll s tree (inside l .inner) (i + 1) m) (sym ends-at) (inside l .inner-laid))) in
-      subst (λ (us : List Element). Next s tree name us r next) x y
+  pub laid-inside : LaidAll s tree (inside l .inner) (i + 1) stop
+  laid-inside = subst (λ (m : ℕ). LaidAll s tree (inside l .inner) (i + 1) m) (sym ends-at) (inside l .inner-laid)
 
--- the first of those of a name
-module _ {s tree name : List ℕ} {i stop : ℕ} where
-  pub finds-none : {ts : List Element} → Next s tree name ts i stop → stop ≤ i → Finds s tree (first-of ts) Nothing
-  unfolding first-of
-  finds-none (no-more e) h = found-nothing
-  finds-none (one-more b l all) h = absurd (omega arith)
+  pub first-inside : {k r : ℕ} → ((ts : Elements) → LaidAll s tree ts (i + 1) stop → Next s tree k (all-named k (listed ts)) r stop)
+      → Next s tree k (all-of k t) r next
+  first-inside {k} {r} f =
+      let y : Next s tree k (all-named k (listed (inside l .inner))) r next =
+      subst (λ (m : ℕ). Next s tree k (all-named k (listed (inside l .inner))) r m) ends-at (f (inside l .inner) laid-inside) in
+      subst (λ (us : List Element). Next s tree k us r next) (sym (all-inside k (inside l))) y
 
-  pub finds-one : {ts : List Element} → Next s tree name ts i stop → i < stop → Finds s tree (first-of ts) (At i)
-  unfolding first-of
-  finds-one (no-more e) h = absurd (omega arith)
-  finds-one (one-more b l all) h = found-at l
+-- of what follows an element, the first of a row's name
+pub next-after : {s tree : List ℕ} {k : ℕ} {t : Element} {ts : Elements} {i next stop r after : ℕ} → Laid s tree t i next → LaidAll s tree ts next stop
+    → Cell tree i 4 after → ((us : Elements) → LaidAll s tree us after stop → Next s tree k (all-named k (listed us)) r stop)
+    → Next s tree k (all-named k (listed ts)) r stop
+next-after {s} {tree} {ts = ts} {stop = stop} l all c f = f ts (subst (λ (m : ℕ). LaidAll s tree ts m stop) (sym (ends-at l c)) all)
 
--- what was found, taken apart
-at-not-nothing : {A : Type 0} {i : ℕ} → At i ≡ Nothing → A
-at-not-nothing e = let z : _≡_ {A = ℕ} 0 1 = cc in absurd (omega arith)
-
-module _ {s tree : List ℕ} where
-  pub under-nothing : (name : List ℕ) {o : Option Element} {found : Found} → Finds s tree o found → found ≡ Nothing
-      → Finds s tree (child-under name o) Nothing
-  unfolding child-under
-  under-nothing name (found-at l) e = at-not-nothing e
-  under-nothing name found-nothing e = found-nothing
-
-  pub under-at : (name : List ℕ) {o : Option Element} {found r : Found} {i : ℕ} → Finds s tree o found → found ≡ At i
-      → ((t : Element) (next : ℕ) → Laid s tree t i next → Finds s tree (child-named name t) r) → Finds s tree (child-under name o) r
-  unfolding child-under
-  under-at name {i = i} (found-at {t} {i = j} {next} l) e f =
-      let x : j ≡ i = cc in
-      f t next (subst (λ (k : ℕ). Laid s tree t k next) x l)
-  under-at name found-nothing e f = at-not-nothing (sym e)
-
-  pub own-first : (other : Option Element) {o : Option Element} {found : Found} {i : ℕ} → Finds s tree o found → found ≡ At i
-      → Finds s tree (either-of o other) (At i)
-  unfolding either-of
-  own-first other {i = i} (found-at {t} {i = j} {next} l) e =
-      let x : j ≡ i = cc in
-      found-at (subst (λ (k : ℕ). Laid s tree t k next) x l)
-  own-first other found-nothing e = at-not-nothing (sym e)
-
-  pub else-other : {o other : Option Element} {found r : Found} → Finds s tree o found → found ≡ Nothing → Finds s tree other r
-      → Finds s tree (either-of o other) r
-  unfolding either-of
-  else-other (found-at l) e f = at-not-nothing e
-  else-other found-nothing e f = f
-
-  -- What is found is determined, up to the numbers of the element's place in the message.
-  pub found-agree : {o : Option Element} {f g : Found} → Finds s tree o f → Finds s tree o g → SamePlace tree f g
-  found-agree (found-at l) (found-at k) =
-      let d = entry-of l in
-      let e = entry-of k in
-      same-at (d .at-is ∙ sym (e .at-is)) (d .name-end-is ∙ sym (e .name-end-is)) (d .start-is ∙ sym (e .start-is)) (d .close-is ∙ sym (e .close-is))
-  found-agree found-nothing found-nothing = same-nothing
-
--- What is known of the element where one was found, and where nothing was; and of the first of those of a name, where one is left and where none is.
-pub record Located (s tree : List ℕ) (o : Option Element) (i : ℕ) : Type 0 where
-  pub there : Element
-  pub there-is : o ≡ some there
-  pub there-next : ℕ
-  pub there-laid : Laid s tree there i there-next
-
-pub record First (s tree name : List ℕ) (ts : List Element) (i stop : ℕ) : Type 0 where
+-- the first of those of a row's name, where one is left and where none is
+pub record First (s tree : List ℕ) (k : ℕ) (ts : List Element) (i stop : ℕ) : Type 0 where
   pub one : Element
   pub one-next : ℕ
   pub one-laid : Laid s tree one i one-next
   pub later : Elements
   pub later-laid : LaidAll s tree later one-next stop
-  pub first-is : ts ≡ one ∷ with-name name (listed later)
+  pub first-is : ts ≡ one ∷ all-named k (listed later)
 
-module _ {s tree : List ℕ} where
-  pub located : {o : Option Element} {found : Found} {i : ℕ} → Finds s tree o found → found ≡ At i → Located s tree o i
-  located {i = i} (found-at {t} {i = j} {next} l) e =
-      let x : j ≡ i = cc in
-      record { there = t; there-is = refl; there-next = next; there-laid = subst (λ (k : ℕ). Laid s tree t k next) x l }
-  located found-nothing e = at-not-nothing (sym e)
-
-  pub absent : {o : Option Element} {found : Found} → Finds s tree o found → found ≡ Nothing → o ≡ none
-  absent (found-at l) e = at-not-nothing e
-  absent found-nothing e = refl
-
-  pub next-one : {name : List ℕ} {ts : List Element} {i stop : ℕ} → Next s tree name ts i stop → i < stop → First s tree name ts i stop
+module _ {s tree : List ℕ} {k i stop : ℕ} where
+  pub next-one : {ts : List Element} → Next s tree k ts i stop → i < stop → First s tree k ts i stop
   next-one (no-more e) h = absurd (omega arith)
   next-one (one-more {t} {ts} {next = next} b l all) h =
       record { one = t; one-next = next; one-laid = l; later = ts; later-laid = all; first-is = refl }
 
-  pub next-none : {name : List ℕ} {ts : List Element} {i stop : ℕ} → Next s tree name ts i stop → stop ≤ i → ts ≡ []
+  pub next-none : {ts : List Element} → Next s tree k ts i stop → stop ≤ i → ts ≡ []
   next-none (no-more e) h = refl
   next-none (one-more b l all) h = absurd (omega arith)
 
--- of what follows an element, the first of a name
-pub next-after : {s tree name : List ℕ} {t : Element} {ts : Elements} {i next stop r after : ℕ} → Laid s tree t i next → LaidAll s tree ts next stop
-    → Cell tree i 4 after → ((us : Elements) → LaidAll s tree us after stop → Next s tree name (with-name name (listed us)) r stop)
-    → Next s tree name (with-name name (listed ts)) r stop
-next-after {s} {tree} {ts = ts} {stop = stop} l all c f = f ts (subst (λ (m : ℕ). LaidAll s tree ts m stop) (sym (ends-at l c)) all)
+  pub finds-none : (t : Element) → Next s tree k (all-of k t) i stop → stop ≤ i → Finds s tree (child k t) Nothing
+  finds-none t n h = rw (child-none k t (next-none n h)) found-nothing
+
+  pub finds-one : (t : Element) → Next s tree k (all-of k t) i stop → i < stop → Finds s tree (child k t) (At i)
+  finds-one t n h =
+      let f = next-one n h in
+      rw (child-first k t (f .first-is)) (found-at (record { next = f .one-next; laid = f .one-laid }))
+
+-- a route followed from an element that may be absent: no step, one step, and one step before others
+pub onward-none : (route : List ℕ) → onward route none ≡ none
+unfolding onward
+onward-none route = refl
+
+pub onward-some : (route : List ℕ) (t : Element) → onward route (some t) ≡ follow route t
+unfolding onward
+onward-some route t = refl
+
+pub onward-here : (o : Option Element) → onward [] o ≡ o
+unfolding onward follow
+onward-here none = refl
+onward-here (some t) = refl
+
+pub follow-one : (k : ℕ) (t : Element) → follow (k ∷ []) t ≡ child k t
+unfolding follow
+follow-one k t = go (child k t)
+  where
+    go : (o : Option Element) → _≡_ {A = Option Element} (elim o [ none ↦ none | some u ↦ some u ]) o
+    go none = refl
+    go (some u) = refl
+
+pub follow-step : (k : ℕ) (ks : List ℕ) (t : Element) → follow (k ∷ ks) t ≡ onward ks (child k t)
+unfolding follow onward
+follow-step k ks t = go (child k t)
+  where
+    go : (o : Option Element) → _≡_ {A = Option Element} (elim o [ none ↦ none | some u ↦ follow ks u ]) (onward ks o)
+    go none = refl
+    go (some u) = refl
+
+pub onward-step : (k : ℕ) (ks : List ℕ) (o : Option Element) → onward (k ∷ ks) o ≡ onward ks (onward (k ∷ []) o)
+onward-step k ks none = onward-none (k ∷ ks) ∙ sym (ap (onward ks) (onward-none (k ∷ [])) ∙ onward-none ks)
+onward-step k ks (some t) =
+    onward-some (k ∷ ks) t ∙ (follow-step k ks t ∙ sym (ap (onward ks) (onward-some (k ∷ []) t ∙ follow-one k t)))
+
+-- the rows of a route from a number on
+module _ (route : List ℕ) (j : ℕ) where
+  pub rows-go-on : j < length route → (getD route j 0 ≡ 0 → ⊥) → rows-in (drop j route) ≡ getD route j 0 ∷ rows-in (drop (j + 1) route)
+  unfolding rows-in
+  rows-go-on h n = rw (drop-cons route j 0 h, add-one j, ne-eqb (getD route j 0) 0 n)
+
+  pub rows-stop : j < length route → getD route j 0 ≡ 0 → rows-in (drop j route) ≡ []
+  unfolding rows-in
+  rows-stop h e = rw (drop-cons route j 0 h, eq-eqb (getD route j 0) 0 e)
+
+  pub rows-end : length route ≤ j → rows-in (drop j route) ≡ []
+  unfolding rows-in
+  rows-end h = rw (drop-of-length-le route h)
+
+-- Some rows of a route followed: what stands there was found, and the rest of the route leads on from it.
+pub record Halfway (s tree route : List ℕ) (o : Option Element) (found : Found) (j : ℕ) : Type 0 where
+  pub here : Option Element
+  pub found-here : Finds s tree here found
+  pub leads-on : onward (rows-in route) o ≡ onward (rows-in (drop j route)) here
+  pub rows-ahead : every is-row (rows-in (drop j route)) ≡ true
+
+module _ {s tree route : List ℕ} {o : Option Element} {found : Found} where
+  pub sets-out : every is-row (rows-in route) ≡ true → Finds s tree o found → Halfway s tree route o found 0
+  sets-out y f = record { here = o; found-here = f; leads-on = refl; rows-ahead = y }
+
+  pub arrived : {j : ℕ} → rows-in (drop j route) ≡ [] → Halfway s tree route o found j → Finds s tree (onward (rows-in route) o) found
+  arrived e h = rw (h .leads-on, e, onward-here (h .here)) (h .found-here)
+
+  pub one-row-on : {next : Found} {j k : ℕ} → j < length route → (getD route j 0 ≡ 0 → ⊥) → k ≡ getD route j 0
+      → ((u : Option Element) → is-row k ≡ true → Finds s tree u found → Finds s tree (onward (k ∷ []) u) next)
+      → Halfway s tree route o found j → Halfway s tree route o next (j + 1)
+  unfolding every
+  one-row-on {j = j} {k = k} b n r f h =
+      let ks = rows-in (drop (j + 1) route) in
+      let e : rows-in (drop j route) ≡ k ∷ ks = rows-go-on route j b n ∙ ap (λ (m : ℕ). m ∷ ks) (sym r) in
+      let y : (is-row k && every is-row ks) ≡ true = ap (every is-row) (sym e) ∙ h .rows-ahead in
+      record {
+        here = onward (k ∷ []) (h .here);
+        found-here = f (h .here) (both-left (is-row k) (every is-row ks) y) (h .found-here);
+        leads-on = h .leads-on ∙ (ap (λ (l : List ℕ). onward l (h .here)) e ∙ onward-step k ks (h .here));
+        rows-ahead = both-right (is-row k) (every is-row ks) y;
+      }

@@ -1,11 +1,17 @@
-// Children found by name in the laid-out tree of a message, and what stands at the end of a route of names.
-ghost use mathlib.Core.List.{[], _∷_};
+// Children found by their rows in the laid-out tree of a message, and what stands at the end of a route of rows.
+use tree::Tree;
+ghost use mathlib.Core.Path.{_≡_};
+ghost use mathlib.Core.Bool.{true};
+ghost use mathlib.Core.List.{List, [], _∷_};
 ghost use mathlib.Core.Option.{Option};
 ghost use Prim.Native.Nat.{ℕ, _+_, _<_, _≤_};
+ghost use Rattle.paper.specs.Bytes.{every};
 ghost use Rattle.paper.specs.Form.{Element, Elements};
-ghost use Rattle.paper.specs.Payments.{listed, children};
-ghost use Rattle.tree.specs.Laid.{Laid, LaidAll};
-ghost use Rattle.tree_routes.specs.Finds.{Finds, Next, Leads, LeadsEither, with-name, child-named, child-under};
+ghost use Rattle.paper.specs.Rows.{name as name-of-row};
+ghost use Rattle.paper.specs.Payments.{listed, all-named, all-of, child, either-of};
+ghost use Rattle.form_names.specs.Names.{name-number, is-row};
+ghost use Rattle.tree.specs.Laid.{Laid, LaidAll, LaidAt};
+ghost use Rattle.tree_routes.specs.Finds.{Finds, Next, rows-in, onward, ByName, ChildrenOf};
 
 // Where an element stands that may be absent.
 pub enum Found {
@@ -13,14 +19,17 @@ pub enum Found {
     Nothing,
 }
 
-// Of the elements from i up to `stop`, the first of this name; `stop` where there is none.
-fn next_named(s: &[u8], tree: &[u16], i: usize, stop: usize, name: &[u8]) -> usize
-    ensures { λ r. ⌜ (i ≤ r) × ((ts : Elements) → LaidAll (now (s .entry)) (now (tree .entry)) ts i stop
-        → Next (now (s .entry)) (now (tree .entry)) (now (name .entry)) (with-name (now (name .entry)) (listed ts)) r stop) ⌝ }
+// The first child of each name, by the name's number; 0 where there is none.
+pub type Children = [u16; 56];
+
+// Of the elements from i up to `stop`, the first whose name has this number; `stop` where there is none.
+fn next_named(tree: &Tree, i: usize, stop: usize, name: usize) -> usize
+    ensures { λ r. ⌜ (i ≤ r) × ((s : List ℕ) (row : ℕ) (ts : Elements) → is-row row ≡ true → name ≡ name-number (name-of-row row) → LaidAll s (now (tree .entry)) ts i stop
+        → Next s (now (tree .entry)) row (all-named row (listed ts)) r stop) ⌝ }
 {
     let mut at = i;
     while at < stop {
-        if tree::is_named(s, tree, at, name) {
+        if tree::cell(tree, at, 1) == name {
             return at;
         }
         let next = tree::cell(tree, at, 4);
@@ -32,36 +41,36 @@ fn next_named(s: &[u8], tree: &[u16], i: usize, stop: usize, name: &[u8]) -> usi
     at
 }
 
-// The first child of element i that has this name; the end of the element where there is none.
-pub fn first_in(s: &[u8], tree: &[u16], i: usize, name: &[u8]) -> usize
-    ensures { λ r. ⌜ ((t : Element) (next : ℕ) → Laid (now (s .entry)) (now (tree .entry)) t i next
-        → Next (now (s .entry)) (now (tree .entry)) (now (name .entry)) (with-name (now (name .entry)) (children t)) r next) ⌝ }
+// The first child of element i that is named as this row; the end of the element where there is none.
+pub fn first_in(tree: &Tree, i: usize, row: usize) -> usize
+    ensures { λ r. ⌜ ((s : List ℕ) (t : Element) (next : ℕ) → is-row row ≡ true → Laid s (now (tree .entry)) t i next
+        → Next s (now (tree .entry)) row (all-of row t) r next) ⌝ }
 {
     let stop = tree::cell(tree, i, 4);
     if stop <= i {
         return i;
     }
-    next_named(s, tree, i + 1, stop, name)
+    next_named(tree, i + 1, stop, tree::name_of(row))
 }
 
-// Of the elements after element i up to `stop`, the first of this name; `stop` where there is none.
-pub fn next_in(s: &[u8], tree: &[u16], i: usize, stop: usize, name: &[u8]) -> usize
+// Of the elements after element i up to `stop`, the first that is named as this row; `stop` where there is none.
+pub fn next_in(tree: &Tree, i: usize, stop: usize, row: usize) -> usize
     ensures { λ r. ⌜ (i < stop → i < r)
-        × ((t : Element) (ts : Elements) (next : ℕ) → Laid (now (s .entry)) (now (tree .entry)) t i next → LaidAll (now (s .entry)) (now (tree .entry)) ts next stop
-        → Next (now (s .entry)) (now (tree .entry)) (now (name .entry)) (with-name (now (name .entry)) (listed ts)) r stop) ⌝ }
+        × ((s : List ℕ) (t : Element) (ts : Elements) (next : ℕ) → is-row row ≡ true → Laid s (now (tree .entry)) t i next → LaidAll s (now (tree .entry)) ts next stop
+        → Next s (now (tree .entry)) row (all-named row (listed ts)) r stop) ⌝ }
 {
     let next = tree::cell(tree, i, 4);
     if next <= i {
         return stop;
     }
-    next_named(s, tree, next, stop, name)
+    next_named(tree, next, stop, tree::name_of(row))
 }
 
-// The first child of element i that has this name.
-pub fn child(s: &[u8], tree: &[u16], i: usize, name: &[u8]) -> Found
-    ensures { λ r. ⌜ ((t : Element) (next : ℕ) → Laid (now (s .entry)) (now (tree .entry)) t i next → Finds (now (s .entry)) (now (tree .entry)) (child-named (now (name .entry)) t) r) ⌝ }
+// The first child of element i that is named as this row.
+pub fn child(tree: &Tree, i: usize, row: usize) -> Found
+    ensures { λ r. ⌜ ((s : List ℕ) (t : Element) → is-row row ≡ true → LaidAt s (now (tree .entry)) i t → Finds s (now (tree .entry)) (child row t) r) ⌝ }
 {
-    let at = first_in(s, tree, i, name);
+    let at = first_in(tree, i, row);
     let stop = tree::cell(tree, i, 4);
     if stop <= at {
         return Found::Nothing;
@@ -70,72 +79,96 @@ pub fn child(s: &[u8], tree: &[u16], i: usize, name: &[u8]) -> Found
 }
 
 // The same of an element that may be absent.
-pub fn child_under(s: &[u8], tree: &[u16], found: Found, name: &[u8]) -> Found
-    ensures { λ r. ⌜ ((o : Option Element) → Finds (now (s .entry)) (now (tree .entry)) o found → Finds (now (s .entry)) (now (tree .entry)) (child-under (now (name .entry)) o) r) ⌝ }
+fn child_under(tree: &Tree, found: Found, row: usize) -> Found
+    ensures { λ r. ⌜ ((s : List ℕ) (o : Option Element) → is-row row ≡ true → Finds s (now (tree .entry)) o found
+        → Finds s (now (tree .entry)) (onward (row ∷ []) o) r) ⌝ }
 {
     match found {
         Found::Nothing => Found::Nothing,
-        Found::At(i) => child(s, tree, i, name),
+        Found::At(i) => child(tree, i, row),
     }
 }
 
-// What stands at the end of a route of names from element i.
-pub fn follow2(s: &[u8], tree: &[u16], i: usize, a: &[u8], b: &[u8]) -> Found
-    ensures { λ r. ⌜ Leads (now (s .entry)) (now (tree .entry)) i (now (a .entry) ∷ now (b .entry) ∷ []) r ⌝ }
+// What stands at the end of a route of rows, which ends before its first 0, from an element that may be absent.
+pub fn follow(tree: &Tree, from: Found, route: &[u16]) -> Found
+    ensures { λ r. ⌜ ((s : List ℕ) (o : Option Element) → every is-row (rows-in (now (route .entry))) ≡ true → Finds s (now (tree .entry)) o from
+        → Finds s (now (tree .entry)) (onward (rows-in (now (route .entry))) o) r) ⌝ }
 {
-    let first = child(s, tree, i, a);
-    child_under(s, tree, first, b)
-}
-
-pub fn follow3(s: &[u8], tree: &[u16], i: usize, a: &[u8], b: &[u8], c: &[u8]) -> Found
-    ensures { λ r. ⌜ Leads (now (s .entry)) (now (tree .entry)) i (now (a .entry) ∷ now (b .entry) ∷ now (c .entry) ∷ []) r ⌝ }
-{
-    let second = follow2(s, tree, i, a, b);
-    child_under(s, tree, second, c)
-}
-
-pub fn follow4(s: &[u8], tree: &[u16], i: usize, a: &[u8], b: &[u8], c: &[u8], d: &[u8]) -> Found
-    ensures { λ r. ⌜ Leads (now (s .entry)) (now (tree .entry)) i (now (a .entry) ∷ now (b .entry) ∷ now (c .entry) ∷ now (d .entry) ∷ []) r ⌝ }
-{
-    let third = follow3(s, tree, i, a, b, c);
-    child_under(s, tree, third, d)
-}
-
-// What stands at the end of a route in the payment `own`, or else in its block.
-pub fn inherited1(s: &[u8], tree: &[u16], own: usize, block: usize, a: &[u8]) -> Found
-    ensures { λ r. ⌜ LeadsEither (now (s .entry)) (now (tree .entry)) own block (now (a .entry) ∷ []) r ⌝ }
-{
-    let found = child(s, tree, own, a);
-    match found {
-        Found::At(i) => Found::At(i),
-        Found::Nothing => child(s, tree, block, a),
+    let mut found = from;
+    let mut k = 0;
+    while k < route.len() {
+        if route[k] == 0 {
+            return found;
+        }
+        found = child_under(tree, found, tree::wide(route[k]));
+        k += 1;
     }
+    found
 }
 
-pub fn inherited2(s: &[u8], tree: &[u16], own: usize, block: usize, a: &[u8], b: &[u8]) -> Found
-    ensures { λ r. ⌜ LeadsEither (now (s .entry)) (now (tree .entry)) own block (now (a .entry) ∷ now (b .entry) ∷ []) r ⌝ }
+fn narrow(x: usize) -> u16
+    ensures { λ r. ⌜ (x < 65536 → r ≡ x) ⌝ }
 {
-    let found = follow2(s, tree, own, a, b);
-    match found {
-        Found::At(i) => Found::At(i),
-        Found::Nothing => follow2(s, tree, block, a, b),
+    (x % 65536) as u16
+}
+
+// The first child of each name, in one walk over the children of element i.
+pub fn by_name(tree: &Tree, i: usize) -> Children
+    ensures { λ r. ⌜ ChildrenOf (now (tree .entry)) i r ⌝ }
+{
+    let mut firsts = [0u16; 56];
+    if tree::ELEMENTS <= i {
+        return firsts;
     }
+    let stop = tree::cell(tree, i, 4);
+    let mut at = i + 1;
+    while at < stop {
+        let name = tree::cell(tree, at, 1);
+        if name < 56 {
+            if firsts[name] == 0 {
+                firsts[name] = narrow(at);
+            }
+        }
+        let next = tree::cell(tree, at, 4);
+        if next <= at {
+            return firsts;
+        }
+        at = next;
+    }
+    firsts
 }
 
-pub fn inherited3(
-    s: &[u8],
-    tree: &[u16],
-    own: usize,
-    block: usize,
-    a: &[u8],
-    b: &[u8],
-    c: &[u8],
-) -> Found
-    ensures { λ r. ⌜ LeadsEither (now (s .entry)) (now (tree .entry)) own block (now (a .entry) ∷ now (b .entry) ∷ now (c .entry) ∷ []) r ⌝ }
+// The same where those of another element are known, which may be this one.
+pub fn by_name_again(tree: &Tree, i: usize, known: usize, children: Children) -> Children
+    ensures { λ r. ⌜ (ChildrenOf (now (tree .entry)) known children → ChildrenOf (now (tree .entry)) i r) ⌝ }
 {
-    let found = follow3(s, tree, own, a, b, c);
-    match found {
+    if known == i {
+        return children;
+    }
+    by_name(tree, i)
+}
+
+// Of the first children of an element, that which is named as this row.
+pub fn first(children: &Children, row: usize) -> Found
+    ensures { λ r. ⌜ ((s tree : List ℕ) (t : Element) → is-row row ≡ true → ByName s tree t (now (children .entry)) → Finds s tree (child row t) r) ⌝ }
+{
+    let name = tree::name_of(row);
+    if 56 <= name {
+        return Found::Nothing;
+    }
+    let i = tree::wide(children[name]);
+    if i == 0 {
+        return Found::Nothing;
+    }
+    Found::At(i)
+}
+
+// The first of two that stands there.
+pub fn either(one: Found, other: Found) -> Found
+    ensures { λ r. ⌜ ((s tree : List ℕ) (o u : Option Element) → Finds s tree o one → Finds s tree u other → Finds s tree (either-of o u) r) ⌝ }
+{
+    match one {
         Found::At(i) => Found::At(i),
-        Found::Nothing => follow3(s, tree, block, a, b, c),
+        Found::Nothing => other,
     }
 }

@@ -1,4 +1,6 @@
 // The text of a field of a payment that stands in the order, as a part of the message.
+use rule_limits::Order;
+use tree::Tree;
 ghost use Prim.Native.Nat.{_+_, _≤_, _<_};
 ghost use lib.ListN.{length};
 ghost use Rattle.paper.specs.Form.{Element};
@@ -24,22 +26,22 @@ fn part(message: &[u8], start: usize, size: usize) -> &[u8]
 // The text of a field of payment k, whose element and block stand in the order; the empty part at 0 where there is no such element.
 pub fn field_in<'a>(
     message: &'a [u8],
-    tree: &[u16],
-    order: &[u16],
+    tree: &Tree,
+    order: &Order,
     k: usize,
     field: usize,
 ) -> &'a [u8]
     ensures { λ r. ⌜ ((root : Element) → Ordered (now (message .entry)) (now (tree .entry)) (now (order .entry)) root → k < length (all-payments root) → k < 64
         → HandsBack (message .entry) r (field-of (all-payments root) k field)) ⌝ }
 {
-    if 64 <= k {
+    if paper::MOST_PAYMENTS <= k {
         return &message[0..0];
     }
-    let own = tree::number(order, 16 + 3 * k);
-    let block = tree::number(order, 17 + 3 * k);
-    let span = verdict_table::span_of(
-        tree,
-        tree_fields::field_at(message, tree, own, block, field),
-    );
+    let payment = rule_limits::payment(order, k);
+    let own = tree_routes::by_name(tree, payment.own);
+    let block = tree_routes::by_name(tree, payment.block);
+    let routes = tree_fields::routes();
+    let found = tree_fields::field_at(tree, &routes, &own, &block, field);
+    let span = verdict_table::span_of(tree, found);
     part(message, span.start, span.size)
 }

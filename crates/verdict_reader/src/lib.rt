@@ -8,10 +8,10 @@ ghost use Rattle.verdict_reader.specs.Promises.{VerdictPromise, FieldPro
 pub fn verdict(message: &[u8], table: &mut [u32]) -> Verdict
     ensures { λ r. ⌜ VerdictPromise (now (message .entry)) (now (table .entry)) r (now (table .exit)) ⌝ }
 {
-    if table.len() < 1024 {
+    if table.len() < paper::LEAST_TABLE {
         return Verdict::Refused(Fault::TableTooShort);
     }
-    let mut tree = [0u16; 54615];
+    let mut tree = [0u16; 28200];
     let mut order = [0u16; 208];
     let found = verdict_stages::outcome(message, &mut tree, &mut order);
     match found {
@@ -35,7 +35,7 @@ pub fn verdict(message: &[u8], table: &mut [u32]) -> Verdict
 pub fn field(message: &[u8], payment: usize, field: usize) -> &[u8]
     ensures { λ r. ⌜ FieldPromise (message .entry) payment field r ⌝ }
 {
-    let mut tree = [0u16; 54615];
+    let mut tree = [0u16; 28200];
     let mut order = [0u16; 208];
     let found = verdict_stages::outcome(message, &mut tree, &mut order);
     match found {

@@ -4,30 +4,34 @@ use native.Mathlib.Omega.{arith}
 use mathlib.Core.List.{List}
 use mathlib.Core.Option.{Option, none, some}
 use mathlib.Core.Path.{_≡_, refl, sym, _∙_, ap, subst}
-use borrow.Author.Tests.{le-ltb}
+use borrow.Author.Tests.{le-ltb, lt-ltb}
 use lib.ListN.{length}
 use Rattle.paper.specs.Form.{Element}
-use Rattle.paper.specs.Computed.Reading.{read, root-is}
+use Rattle.paper.specs.Computed.Reading.{read, root-is, stops-at}
 use Rattle.paper.specs.Rows.{rows}
 use Rattle.paper.specs.Payments.{blocks, payments, total}
 use Rattle.paper.specs.Refusals.{Refusal, refuse, _or-else_, size-refusal, refused-as, accepted-with, unless-refused, of-reading, outcome-alone, answer-to, tree-refusal, rows-refusal, limits-refusal, values-refusal, usage-refusal, ids-refusal, total-refusal, counts-refusal}
 use Rattle.paper.specs.Answers.{refusal-of, numbered, refusal-found, verdict-says}
 use Rattle.verdict_answers.proofs.Agreement.{one-verdict}
 use Rattle.paper.specs.declared.Fault.{Fault}
-use Rattle.paper.specs.declared.Fault.the-variants.{TooMany, TotalTooLarge}
+use Rattle.paper.specs.declared.Fault.the-variants.{MessageTooLong, NotOfTheForm, TooMany, TotalTooLarge}
 use Rattle.paper.specs.declared.Finding.{Finding}
 use Rattle.paper.specs.declared.Finding.the-variants as finding
 use Rattle.paper.specs.declared.Verdict.{Verdict}
 use Rattle.paper.specs.declared.Verdict.the-variants.{Accepted, Refused}
-use Rattle.tree.specs.Laid.{Laid}
+use Rattle.tree.specs.Laid.{LaidAt}
 use Rattle.rule_limits.specs.Ordered.{Ordered, Few, Limited, is-within, is-excess}
 use Rattle.rule_limits.specs.declared.Limits.{Limits}
 use Rattle.rule_limits.specs.declared.Limits.the-variants.{Within, Excess}
 use Rattle.rule_totals.specs.Totals.{Totals, total-is, total-above}
 use Rattle.rule_totals.specs.declared.Total.{Total}
 use Rattle.rule_totals.specs.declared.Total.the-variants as totalled
-use Rattle.verdict_shape.specs.Shaped.{Shaped, not-shaped, is-shaped}
-use Rattle.verdict_stages.specs.Decided.{Passes, refuses, accepts, Decided, decided-refused, decided-accepted}
+use Rattle.form.specs.Promise.{LaidOut, FormPromise}
+use Rattle.form.specs.declared.Form.{Form}
+use Rattle.form.specs.declared.Form.the-variants.{OfTheForm, RefusedAt}
+use Rattle.paper_grammar.proofs.Decides.{refusal-is-stop}
+use Rattle.paper_grammar.proofs.Complete.{complete}
+use Rattle.verdict_stages.specs.Decided.{from-total, from-values, Passes, refuses, accepts, Decided, decided-refused, decided-accepted}
 use Rattle.verdict_stages.proofs.Readable.{readable}
 use Rattle.paper_acceptance.proofs.OneWalk.{rows-first}
 use Rattle.verdict_stages.proofs.Fits.{fits}
@@ -35,6 +39,14 @@ use Rattle.verdict_stages.proofs.Fits.{fits}
 of-the-form : (s : List ℕ) {root : Element} → length s ≤ 32768 → read s ≡ root-is root → outcome-alone rows s ≡ unless-refused (tree-refusal rows root) (accepted-with root)
 unfolding outcome-alone size-refusal refuse unless-refused of-reading
 of-the-form s h e = rw (le-ltb 32768 (length s) h, e)
+
+size-refused : (s : List ℕ) → 32768 < length s → outcome-alone rows s ≡ refused-as (refusal-of MessageTooLong)
+unfolding outcome-alone size-refusal refuse unless-refused refusal-of numbered
+size-refused s h = rw (lt-ltb 32768 (length s) h)
+
+not-of-the-form : (s : List ℕ) {n : ℕ} → length s ≤ 32768 → read s ≡ stops-at n → outcome-alone rows s ≡ refused-as (refusal-of (NotOfTheForm n))
+unfolding outcome-alone size-refusal refuse unless-refused of-reading refusal-of numbered
+not-of-the-form s h e = rw (le-ltb 32768 (length s) h, e)
 
 -- a finding that refuses, and one that does not
 found-refused : {f : Finding} {x : Fault} {a : Option Refusal} → refusal-found f ≡ a → f ≡ finding.Refused x → a ≡ some (refusal-of x)
@@ -68,17 +80,17 @@ total-fits {root} {n = n} (total-is {n = m} e f) d = let g : m ≡ n = cc in (e,
 total-fits (total-above e) d = let z : _≡_ {A = ℕ} 0 1 = cc in absurd (omega (arith, z))
 
 module _ {s tree order : List ℕ} {root : Element} {t : Total} (h : Totals root t) where
-  pub total-refused : {offset : ℕ} → t ≡ totalled.TooLarge offset → Passes s tree order root (total-refusal root or-else counts-refusal root) (Refused (TotalTooLarge offset))
+  pub total-refused : {offset : ℕ} → t ≡ totalled.TooLarge offset → Passes s tree order root (from-total root) (Refused (TotalTooLarge offset))
   unfolding _or-else_
   total-refused {offset} e = refuses {f = TotalTooLarge offset} (rw (total-answers h e))
 
   module _ {n : ℕ} {f : Finding} (e : t ≡ totalled.Cents n) (is : refusal-found f ≡ counts-refusal root) where
-    pub counts-refused : {x : Fault} → f ≡ finding.Refused x → Passes s tree order root (total-refusal root or-else counts-refusal root) (Refused x)
+    pub counts-refused : {x : Fault} → f ≡ finding.Refused x → Passes s tree order root (from-total root) (Refused x)
     unfolding _or-else_
     counts-refused {x} d = refuses {f = x} (rw (total-fits h e .0) (found-refused is d))
 
     pub all-passed : {b p : ℕ} → f ≡ finding.Nothing → Ordered s tree order root → b ≡ length (blocks root) → p ≡ length (payments root) → p ≤ 64 → b ≤ 16
-        → values-refusal rows root ≡ none → Passes s tree order root (total-refusal root or-else counts-refusal root) (Accepted b p n)
+        → values-refusal rows root ≡ none → Passes s tree order root (from-total root) (Accepted b p n)
     unfolding _or-else_
     all-passed {b} {p} d o x y few small v =
         accepts (rw (total-fits h e .0) (found-none is d))
@@ -120,7 +132,7 @@ module _ {s tree order : List ℕ} {root : Element} (none-of-rows : rows-refusal
     limits-refused {element} {offset} e = rw none-of-rows (go within e)
       where
         go : {l : Limits} → Limited s tree order root l → l ≡ Excess element offset
-            → Passes s tree order root (limits-refusal root or-else (values-refusal rows root or-else (usage-refusal root or-else (ids-refusal root or-else (total-refusal root or-else counts-refusal root)))))
+            → Passes s tree order root (limits-refusal root or-else from-values root)
             (Refused (TooMany element offset))
         go (is-within a b c o) e = let z : _≡_ {A = ℕ} 0 1 = cc in absurd (omega (arith, z))
         go (is-excess {element = x} {offset = y} a) e =
@@ -128,19 +140,19 @@ module _ {s tree order : List ℕ} {root : Element} (none-of-rows : rows-refusal
             let h : y ≡ offset = cc in
             refuses {f = TooMany element offset} (rw a (ap (λ (n : ℕ). refuse 5 n y) g ∙ ap (λ (n : ℕ). refuse 5 element n) h))
 
-    pub limits-passed : {b p : ℕ} {v : Verdict} → l ≡ Within b p → 208 ≤ length order
+    pub limits-passed : {b p : ℕ} {v : Verdict} → l ≡ Within b p
         → (Ordered s tree order root → b ≡ length (blocks root) → p ≡ length (payments root)
-        → Passes s tree order root (values-refusal rows root or-else (usage-refusal root or-else (ids-refusal root or-else (total-refusal root or-else counts-refusal root)))) v)
+        → Passes s tree order root (from-values root) v)
         → Passes s tree order root (tree-refusal rows root) v
     unfolding tree-refusal _or-else_
-    limits-passed {b} {p} {v} e room then = rw none-of-rows (go within e)
+    limits-passed {b} {p} {v} e then = rw none-of-rows (go within e)
       where
         go : {l : Limits} → Limited s tree order root l → l ≡ Within b p
-            → Passes s tree order root (limits-refusal root or-else (values-refusal rows root or-else (usage-refusal root or-else (ids-refusal root or-else (total-refusal root or-else counts-refusal root))))) v
+            → Passes s tree order root (limits-refusal root or-else from-values root) v
         go (is-within {b = x} {p = y} a m n o) e =
             let g : x ≡ b = cc in
             let h : y ≡ p = cc in
-            rw a (then (o room) (sym g ∙ sym m) (sym h ∙ sym n))
+            rw a (then o (sym g ∙ sym m) (sym h ∙ sym n))
         go (is-excess a) e = let z : _≡_ {A = ℕ} 0 1 = cc in absurd (omega (arith, z))
 
 -- at most 16 blocks and 64 payments
@@ -167,25 +179,26 @@ outcome-accepted : (root : Element) → tree-refusal rows root ≡ none → unle
 unfolding unless-refused
 outcome-accepted root e = rw e
 
-decide : {s tree order : List ℕ} {root : Element} {next : ℕ} → length s ≤ 32768 → read s ≡ root-is root → Laid s tree root 0 next → {v : Verdict}
+decide : {s tree order : List ℕ} {root : Element} → length s ≤ 32768 → read s ≡ root-is root → LaidAt s tree 0 root → {v : Verdict}
     → Passes s tree order root (tree-refusal rows root) v → Decided s tree order v
 decide {s} {root = root} l r t (refuses {f = x} e) = decided-refused (of-the-form s l r ∙ outcome-refused root x e)
 decide {s} {root = root} l r t (accepts e p) = decided-accepted l (of-the-form s l r ∙ outcome-accepted root e) t p
 
-module _ {s tree order : List ℕ} {f : Finding} (h : Shaped s tree f) where
-  pub shape-decides : {x : Fault} → f ≡ finding.Refused x → Decided s tree order (Refused x)
-  shape-decides {x} e = go h e
-    where
-      go : {f : Finding} → Shaped s tree f → f ≡ finding.Refused x → Decided s tree order (Refused x)
-      go (not-shaped {f = y} o) e = let g : y ≡ x = cc in decided-refused (o ∙ ap (λ (z : Fault). refused-as (refusal-of z)) g)
-      go (is-shaped l r t) e = let z : _≡_ {A = ℕ} 0 1 = cc in absurd (omega (arith, z))
+-- 1 and 2
+pub too-long : {s tree order : List ℕ} → 32768 < length s → Decided s tree order (Refused MessageTooLong)
+too-long {s} h = decided-refused (size-refused s h)
 
-  pub stages-decide : {v : Verdict} → f ≡ finding.Nothing → ((root : Element) (next : ℕ) → Laid s tree root 0 next → Passes s tree order root (tree-refusal rows root) v) → Decided s tree order v
-  stages-decide {v} e passes = go h e
-    where
-      go : {f : Finding} → Shaped s tree f → f ≡ finding.Nothing → Decided s tree order v
-      go (not-shaped o) e = let z : _≡_ {A = ℕ} 0 1 = cc in absurd (omega (arith, z))
-      go (is-shaped {root = root} {next = next} l r t) e = decide l r t (passes root next t)
+module _ {s tree : List ℕ} {f : Form} (says : FormPromise s tree f) (h : length s ≤ 32768) where
+  pub form-refuses : {order : List ℕ} {n : ℕ} → f ≡ RefusedAt n → Decided s tree order (Refused (NotOfTheForm n))
+  unfolding FormPromise
+  form-refuses {n = n} e = decided-refused (not-of-the-form s h (refusal-is-stop s n (rw e at says)))
+
+  laid-out : f ≡ OfTheForm → LaidOut s tree
+  unfolding FormPromise
+  laid-out e = rw e at says
+
+  pub form-passes : {order : List ℕ} {v : Verdict} → f ≡ OfTheForm → ((root : Element) → LaidAt s tree 0 root → Passes s tree order root (tree-refusal rows root) v) → Decided s tree order v
+  form-passes e passes = let l = laid-out e in decide h (complete (l .message)) (l .laid h) (passes (l .root) (l .laid h))
 
 -- a message that was refused is refused where no table is lent
 pub refused-has : {s tree order : List ℕ} {v : Verdict} {f : Fault} → Decided s tree order v → v ≡ Refused f → outcome-alone rows s ≡ refused-as (refusal-of f)

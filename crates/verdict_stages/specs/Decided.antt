@@ -7,13 +7,13 @@ use lib.ListN.{length}
 use Rattle.paper.specs.Form.{Element}
 use Rattle.paper.specs.Rows.{rows}
 use Rattle.paper.specs.Payments.{blocks, payments, total}
-use Rattle.paper.specs.Refusals.{Refusal, refused-as, accepted-with, outcome-alone}
+use Rattle.paper.specs.Refusals.{Refusal, refused-as, accepted-with, outcome-alone, values-refusal, usage-refusal, ids-refusal, total-refusal, counts-refusal, _or-else_}
 use Rattle.paper.specs.Accepted.{All}
 use Rattle.paper.specs.Answers.{refusal-of}
 use Rattle.paper.specs.declared.Fault.{Fault}
 use Rattle.paper.specs.declared.Verdict.{Verdict}
 use Rattle.paper.specs.declared.Verdict.the-variants.{Accepted, Refused}
-use Rattle.tree.specs.Laid.{Laid}
+use Rattle.tree.specs.Laid.{LaidAt}
 use Rattle.rule_limits.specs.Ordered.{Ordered}
 use Rattle.tree_leaves.specs.Readable.{Readable}
 use Rattle.verdict_table.specs.Rows.{Fitting}
@@ -28,6 +28,13 @@ pub record Placed (s tree order : List ℕ) (root : Element) (b p c : ℕ) : Typ
   pub readable : Readable root
   pub fitting : All Fitting (payments root)
 
+-- the stages from one on: from 21, from 6 to 8
+abbrev pub from-total : Element → Option Refusal
+from-total root = total-refusal root or-else counts-refusal root
+
+abbrev pub from-values : Element → Option Refusal
+from-values root = values-refusal rows root or-else usage-refusal root or-else ids-refusal root or-else from-total root
+
 -- the stages over the tree from one on, as the verdict says them
 pub data Passes (s tree order : List ℕ) (root : Element) (refusal : Option Refusal) : Verdict → Type 0 where
   refuses : {f : Fault} → refusal ≡ some (refusal-of f) → Passes s tree order root refusal (Refused f)
@@ -36,5 +43,5 @@ pub data Passes (s tree order : List ℕ) (root : Element) (refusal : Option Ref
 -- The outcome on a message, where no table is lent.
 pub data Decided (s tree order : List ℕ) : Verdict → Type 0 where
   decided-refused : {f : Fault} → outcome-alone rows s ≡ refused-as (refusal-of f) → Decided s tree order (Refused f)
-  decided-accepted : {root : Element} {next b p c : ℕ} → length s ≤ 32768 → outcome-alone rows s ≡ accepted-with root → Laid s tree root 0 next
+  decided-accepted : {root : Element} {b p c : ℕ} → length s ≤ 32768 → outcome-alone rows s ≡ accepted-with root → LaidAt s tree 0 root
       → Placed s tree order root b p c → Decided s tree order (Accepted b p c)

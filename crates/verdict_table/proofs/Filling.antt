@@ -3,7 +3,7 @@ use Prim.Native.Nat.{ℕ, _+_, _*_, _≤_, _<_}
 use native.Mathlib.Omega.{arith}
 use mathlib.Core.List.{List, [], _∷_, _++_, append-assoc, append-nil}
 use mathlib.Core.Path.{_≡_, refl, sym, ap, _∙_, subst}
-use lib.ListN.{length, getD, take, drop, length-append}
+use lib.ListN.{length, take, drop, length-append}
 use lib.Seq.{paste, take-at, drop-append-add, drop-drop, take-all}
 use Rattle.paper.proofs.Laws.{each-more, each-length}
 use Rattle.paper.specs.Bytes.{each}
@@ -11,8 +11,10 @@ use Rattle.paper.specs.Form.{Element}
 use Rattle.paper.specs.Payments.{Payment, payments}
 use Rattle.paper.specs.Table.{start-and-length, pairs, numbers-of}
 use Rattle.paper.specs.Accepted.{All, all-more}
-use Rattle.tree.specs.Laid.{Laid}
-use Rattle.rule_limits.specs.Ordered.{PaymentsAt, more-payments, Ordered}
+use Rattle.rule_limits.specs.declared.PaymentAt.{PaymentAt}
+use Rattle.rule_limits.specs.Ordered.{IsPayment, PaymentsAt, payment-in, Ordered}
+use Rattle.rule_limits.proofs.First.{first-payment, no-payment-left, payment-there, one-fewer}
+use Rattle.verdict_table.specs.Rows.{Fitting}
 
 -- a row put behind the numbers so far
 pub one-row : (done row old : List ℕ) (n : ℕ) → length done ≡ n → length row ≡ 16 → paste (done ++ drop n old) n row 16 ≡ (done ++ row) ++ drop (n + 16) old
@@ -29,56 +31,54 @@ numbers-length p = refl
 pub all-numbers-length : (ps : List Payment) → length (each numbers-of ps) ≡ 16 * length ps
 all-numbers-length ps = each-length numbers-of 16 numbers-length ps
 
--- Filled up to payment k, of payments for which something holds.
-pub record Filled (P : Payment → Type 0) (s tree order old : List ℕ) (root : Element) (many k : ℕ) (table : List ℕ) : Type 0 where
+-- Filled up to payment k.
+pub record Filled (s tree order old : List ℕ) (root : Element) (many k : ℕ) (table : List ℕ) : Type 0 where
   pub done : List Payment
   pub rest : List Payment
   pub split : payments root ≡ done ++ rest
   pub at-done : length done ≡ k
   pub stand : PaymentsAt s tree order k rest
-  pub each-holds : All P rest
-  pub as-many : k + length rest ≡ many
+  pub each-fits : All Fitting rest
+  pub as-many : many ≡ k + length rest
   pub holds : table ≡ each numbers-of done ++ drop (16 * k) old
 
-module _ {P : Payment → Type 0} {s tree order old : List ℕ} {root : Element} {many : ℕ} where
-  pub start : Ordered s tree order root → many ≡ length (payments root) → All P (payments root) → Filled P s tree order old root many 0 old
+rest-fits : {p : Payment} {ps : List Payment} → All Fitting (p ∷ ps) → Fitting p × All Fitting ps
+rest-fits (all-more f h) = (f, h)
+
+module _ {s tree order old : List ℕ} {root : Element} {many : ℕ} where
+  pub start : Ordered s tree order root → many ≡ length (payments root) → All Fitting (payments root) → Filled s tree order old root many 0 old
   unfolding each
   start o e h =
-      record { done = []; rest = payments root; split = refl; at-done = refl; stand = o .payments-at; each-holds = h; as-many = omega (arith, e); holds = refl }
+      record { done = []; rest = payments root; split = refl; at-done = refl; stand = o .payments-at; each-fits = h; as-many = omega (arith, e); holds = refl }
 
-  module _ {k : ℕ} {table : List ℕ} (f : Filled P s tree order old root many k table) where
+  module _ {k : ℕ} {table : List ℕ} (f : Filled s tree order old root many k table) where
     pub all-filled : many ≤ k → table ≡ each numbers-of (payments root) ++ drop (16 * length (payments root)) old
-    all-filled h = go (f .rest) (f .split) (f .as-many)
-      where
-        go : (rest : List Payment) → payments root ≡ f .done ++ rest → k + length rest ≡ many → table ≡ each numbers-of (payments root) ++ drop (16 * length (payments root)) old
-        go [] e a = let d : payments root ≡ f .done = e ∙ append-nil (f .done) in rw (d, f .at-done) (f .holds)
-        go (p ∷ ps) e a = absurd (omega (arith, a))
+    all-filled h =
+        let none-left : f .rest ≡ [] = no-payment-left (f .stand) (f .as-many) h in
+        let all-done : payments root ≡ f .done = f .split ∙ (ap (λ (ps : List Payment). f .done ++ ps) none-left ∙ append-nil (f .done)) in
+        rw (all-done, f .at-done) (f .holds)
 
     -- one more payment, whose numbers were put in their place
-    pub one-filled : {own block number : ℕ} {row after : List ℕ} → k < many → own ≡ getD order (16 + 3 * k) 0 → block ≡ getD order (17 + 3 * k) 0 → number ≡ getD order (18 + 3 * k) 0
-        → ((p : Payment) (m n : ℕ) → Laid s tree (p .own) own m → Laid s tree (p .block) block n → P p → number ≡ p .block-number → row ≡ numbers-of p)
-        → after ≡ paste table (16 * k) row 16 → Filled P s tree order old root many (k + 1) after
-    one-filled {own} {block} {number} {row} {after} l o b n r e = go (f .rest) (f .stand) (f .each-holds) (f .split) (f .as-many)
-      where
-        go : (rest : List Payment) → PaymentsAt s tree order k rest → All P rest → payments root ≡ f .done ++ rest → k + length rest ≡ many
-            → Filled P s tree order old root many (k + 1) after
-        go [] t h d a = absurd (omega (arith, a))
-        go (p ∷ ps) (more-payments at t) (all-more q h) d a =
-            let next-row : 16 * k + 16 ≡ 16 * (k + 1) = omega arith in
-            let is : row ≡ numbers-of p =
-            r p (at .own-next) (at .block-next) (subst (λ (i : ℕ). Laid s tree (p .own) i (at .own-next)) (sym o) (at .own-is))
-            (subst (λ (i : ℕ). Laid s tree (p .block) i (at .block-next)) (sym b) (at .block-is)) q (n ∙ at .number-is) in
-            record {
-              done = f .done ++ (p ∷ []);
-              rest = ps;
-              split = d ∙ sym (append-assoc (f .done) (p ∷ []) ps);
-              at-done = length-append (f .done) (p ∷ []) ∙ omega (arith, f .at-done);
-              stand = t;
-              each-holds = h;
-              as-many = omega (arith, a);
-              holds =
-                  e ∙ rw (f .holds, is)
-                  (one-row (each numbers-of (f .done)) (numbers-of p) old (16 * k) (all-numbers-length (f .done) ∙ ap (λ (m : ℕ). 16 * m) (f .at-done)) (numbers-length p) ∙
-                  ap (λ (x : List ℕ). x ++ drop (16 * k + 16) old) (sym (each-more numbers-of (f .done) p)) ∙
-                  ap (λ (m : ℕ). each numbers-of (f .done ++ (p ∷ [])) ++ drop m old) next-row);
-            }
+    pub one-filled : {there : PaymentAt} {row after : List ℕ} → k < many → there ≡ payment-in order k
+        → ((p : Payment) → IsPayment s tree there p → Fitting p → row ≡ numbers-of p) → after ≡ paste table (16 * k) row 16
+        → Filled s tree order old root many (k + 1) after
+    one-filled {row = row} l o r e =
+        let first = first-payment (f .stand) (f .as-many) l in
+        let p = first .one in
+        let fits = rest-fits (subst (All Fitting) (first .first-is) (f .each-fits)) in
+        let is : row ≡ numbers-of p = r p (payment-there o (first .one-there)) (fits .0) in
+        let next-row : 16 * k + 16 ≡ 16 * (k + 1) = omega arith in
+        record {
+          done = f .done ++ (p ∷ []);
+          rest = first .others;
+          split = f .split ∙ (ap (λ (ps : List Payment). f .done ++ ps) (first .first-is) ∙ sym (append-assoc (f .done) (p ∷ []) (first .others)));
+          at-done = length-append (f .done) (p ∷ []) ∙ omega (arith, f .at-done);
+          stand = first .others-at;
+          each-fits = fits .1;
+          as-many = one-fewer k (f .as-many) (first .first-is);
+          holds =
+              e ∙ rw (f .holds, is)
+              (one-row (each numbers-of (f .done)) (numbers-of p) old (16 * k) (all-numbers-length (f .done) ∙ ap (λ (m : ℕ). 16 * m) (f .at-done)) (numbers-length p) ∙
+              ap (λ (x : List ℕ). x ++ drop (16 * k + 16) old) (sym (each-more numbers-of (f .done) p)) ∙
+              ap (λ (m : ℕ). each numbers-of (f .done ++ (p ∷ [])) ++ drop m old) next-row);
+        }

@@ -4,23 +4,22 @@ use native.Mathlib.Nat.{mod-eq-of-lt}
 use native.Mathlib.Omega.{arith}
 use native.Mathlib.Numerals.{add-one}
 use mathlib.Core.List.{List, [], _∷_}
-use mathlib.Core.Option.{Option, some}
-use mathlib.Core.Path.{_≡_, refl, sym, ap, _∙_, subst}
+use mathlib.Core.Option.{Option}
+use mathlib.Core.Path.{_≡_, refl, sym, ap, _∙_}
 use lib.ListN.{length, getD, set}
 use lib.Seq.{paste, paste-suc, length-paste}
 use Rattle.paper.specs.Form.{Element}
-use Rattle.paper.specs.Bytes.{bytes, each}
-use Rattle.paper.specs.Rows.{head-of, rows, leaf, group, group-under, name-in, name}
-use Rattle.paper.specs.Payments.{Payment, inherited, amount-of, either-of}
+use Rattle.paper.specs.Bytes.{each}
+use Rattle.paper.specs.Rows.{head-of}
+use Rattle.paper.specs.Payments.{Payment, child, inherited, amount-of, either-of}
 use Rattle.paper.specs.Table.{Part, part-of, start-and-length, pairs, numbers-of}
-use Rattle.tree.specs.Laid.{Laid}
-use Rattle.tree.proofs.Laws.{Cell, at-cell, start-cell, close-cell, entry-of}
-use Rattle.tree_routes.specs.Finds.{Finds, along, names-of}
+use Rattle.tree.specs.Laid.{LaidAt}
+use Rattle.tree.proofs.Laws.{Cell, at-cell, start-cell, close-cell, entry-at}
+use Rattle.tree_routes.specs.Finds.{Finds}
 use Rattle.tree_routes.specs.declared.Found.{Found}
 use Rattle.tree_routes.specs.declared.Found.the-variants.{At, Nothing}
-use Rattle.tree_fields.proofs.Fields.{inherited-along}
-use Rattle.tree_routes.proofs.WhatIsFound.{found-none, found-some}
-use Rattle.verdict_table.specs.Rows.{SpanIs, SpansOf, Fitting}
+use Rattle.tree_routes.proofs.WhatIsFound.{found-none, found-some, own-row, block-row}
+use Rattle.verdict_table.specs.Rows.{SpanIs, SpansOf, row-of, Fitting}
 use Rattle.verdict_table.specs.declared.Span.{Span}
 use Rattle.verdict_table.specs.declared.Spans.{Spans}
 
@@ -40,14 +39,14 @@ module _ {s tree : List ℕ} {o : Option Element} {f : Found} (h : Finds s tree 
     pub never-ends-first : {A : Type 0} → close < start → A
     never-ends-first l =
         let t = found-some h e in
-        let r = entry-of (t .laid) in
+        let r = entry-at (t .laid) in
         absurd (omega (arith, start-cell r a, close-cell r b, r .written .start-first))
 
     pub held : SpanIs s (part-of o) (record { start = start; size = close - start })
     unfolding part-of
     held =
         let t = found-some h e in
-        let r = entry-of (t .laid) in
+        let r = entry-at (t .laid) in
         let p = start-cell r a in
         let q = close-cell r b in
         let w = r .written in
@@ -70,10 +69,9 @@ pub pasted-all : (d : List ℕ) (at : ℕ) (numbers : List ℕ) (k : ℕ) {table
 pasted-all d at numbers k e f = f ∙ ap (λ (n : ℕ). paste d at numbers n) e
 
 -- the contents of row 16, the payment's or else its block's
-pub kind-found : {s tree : List ℕ} {f : Found} (p : Payment)
-    → Finds s tree (either-of (along (bytes "PmtTpInf" ∷ []) (some (p .own))) (along (bytes "PmtTpInf" ∷ []) (some (p .block)))) f → Finds s tree (inherited (16 ∷ []) p) f
-unfolding names-of name name-in rows leaf group group-under bytes
-kind-found {s} {tree} {f} p h = subst (λ (o : Option Element). Finds s tree o f) (sym (inherited-along (16 ∷ []) p refl)) h
+pub kind-found : {s tree : List ℕ} {f : Found} (p : Payment) → Finds s tree (either-of (child 16 (p .own)) (child 16 (p .block))) f → Finds s tree (inherited (16 ∷ []) p) f
+unfolding inherited
+kind-found p h = rw (own-row 16 p, block-row 16 p) h
 
 -- the sixteen numbers of a payment, none of which is cut
 module _ {s : List ℕ} {p : Payment} {of : Spans} (w : length s ≤ 32768) (o : SpansOf s p of) where
@@ -87,8 +85,7 @@ module _ {s : List ℕ} {p : Payment} {of : Spans} (w : length s ≤ 32768) (o :
   size-uncut i = uncut (omega (arith, i .inside, w)) (i .size-is)
 
   pub the-row : {number cents at : ℕ} {row : List ℕ} → Fitting p → number ≡ p .block-number → cents ≡ amount-of (p .own) → at ≡ head-of (p .own) .at → at ≤ length s
-      → row ≡ number % 4294967296 ∷ of .id .start % 4294967296 ∷ of .id .size % 4294967296 ∷ of .creditor .start % 4294967296 ∷ of .creditor .size % 4294967296 ∷ of .name .start % 4294967296 ∷ of .name .size % 4294967296 ∷ of .ultimate .start % 4294967296 ∷ of .ultimate .size % 4294967296 ∷ of .kind .start % 4294967296 ∷ of .kind .size % 4294967296 ∷ of .debtor .start % 4294967296 ∷ of .debtor .size % 4294967296 ∷ cents / 100 % 4294967296 ∷ cents % 100 ∷ at % 4294967296 ∷ []
-      → row ≡ numbers-of p
+      → row ≡ row-of number of cents at → row ≡ numbers-of p
   unfolding numbers-of each pairs start-and-length
   the-row {number} {cents} {at} f n c a b e =
       let e0 : number % 4294967296 ≡ p .block-number = uncut (omega (arith, n, f .numbered)) n in
@@ -110,8 +107,8 @@ module _ {s : List ℕ} {p : Payment} {of : Spans} (w : length s ≤ 32768) (o :
       e ∙ rw (e0, e1, e2, e3, e4, e5, e6, e7, e8, e9, e10, e11, e12, e13, e14, e15)
 
 -- an element stands inside the message
-pub own-inside : {s tree : List ℕ} {t : Element} {i next at : ℕ} → Laid s tree t i next → Cell tree i 0 at → at ≤ length s
+pub own-inside : {s tree : List ℕ} {t : Element} {i at : ℕ} → LaidAt s tree i t → Cell tree i 0 at → at ≤ length s
 own-inside l c =
-    let r = entry-of l in
+    let r = entry-at l in
     let w = r .written in
-    omega (arith, at-cell r c, w .name-inside, w .start-first, w .close-inside)
+    omega (arith, at-cell r c, w .at-first, w .start-first, w .close-inside)

@@ -1,5 +1,5 @@
 -- The sixteen numbers of a payment as the code has them.
-use Prim.Native.Nat.{ℕ, _+_, _≤_, _<_}
+use Prim.Native.Nat.{ℕ, _+_, _/_, _%_, _≤_, _<_}
 use mathlib.Core.List.{List, [], _∷_}
 use mathlib.Core.Bool.{true}
 use mathlib.Core.Path.{_≡_}
@@ -26,6 +26,16 @@ pub record SpansOf (s : List ℕ) (p : Payment) (r : Spans) : Type 0 where
   pub ultimate : SpanIs s (part-of (inherited (34 ∷ 35 ∷ []) p)) (r .ultimate)
   pub kind : SpanIs s (part-of (inherited (16 ∷ []) p)) (r .kind)
   pub debtor : SpanIs s (part-of (in-block (26 ∷ 27 ∷ 28 ∷ []) p)) (r .debtor)
+
+-- the numbers of a payment's row, each cut to 32 bits
+abbrev pub cut : ℕ → ℕ
+cut n = n % 4294967296
+
+abbrev pub row-of : (number : ℕ) → Spans → (cents at : ℕ) → List ℕ
+row-of number of cents at =
+    cut number ∷ cut (of .id .start) ∷ cut (of .id .size) ∷ cut (of .creditor .start) ∷ cut (of .creditor .size) ∷ cut (of .name .start) ∷ cut (of .name .size) ∷
+    cut (of .ultimate .start) ∷ cut (of .ultimate .size) ∷ cut (of .kind .start) ∷ cut (of .kind .size) ∷ cut (of .debtor .start) ∷ cut (of .debtor .size) ∷
+    cut (cents / 100) ∷ cents % 100 ∷ cut at ∷ []
 
 -- A payment whose numbers fit: its amount is money within row 42's limits, and its block is one of sixteen.
 pub record Fitting (p : Payment) : Type 0 where

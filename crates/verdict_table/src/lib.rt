@@ -1,20 +1,25 @@
 // The lent table after acceptance: sixteen numbers for each payment.
+use rule_limits::Order;
+use rule_limits::PaymentAt;
+use tree::Tree;
+use tree_fields::Routes;
+use tree_routes::Children;
 use tree_routes::Found;
 ghost use mathlib.Core.Path.{_≡_};
-ghost use mathlib.Core.List.{List, [], _∷_, _++_};
+ghost use mathlib.Core.List.{List, _++_};
 ghost use mathlib.Core.Option.{Option};
-ghost use Prim.Native.Nat.{ℕ, _+_, _*_, _/_, _%_, _≤_, _<_};
+ghost use Prim.Native.Nat.{ℕ, _+_, _*_, _≤_};
 ghost use lib.ListN.{length, drop};
 ghost use lib.Seq.{paste};
 ghost use Rattle.paper.specs.Bytes.{each};
 ghost use Rattle.paper.specs.Form.{Element};
-ghost use Rattle.paper.specs.Payments.{Payment, payments};
+ghost use Rattle.paper.specs.Payments.{Payment, payments as all-payments};
 ghost use Rattle.paper.specs.Table.{part-of, numbers-of};
 ghost use Rattle.paper.specs.Accepted.{All};
-ghost use Rattle.tree.specs.Laid.{Laid};
-ghost use Rattle.tree_routes.specs.Finds.{Finds};
-ghost use Rattle.rule_limits.specs.Ordered.{Ordered};
-ghost use Rattle.verdict_table.specs.Rows.{SpanIs, SpansOf, Fitting};
+ghost use Rattle.tree_routes.specs.Finds.{Finds, ByName};
+ghost use Rattle.tree_fields.specs.Routes.{RoutesAre};
+ghost use Rattle.rule_limits.specs.Ordered.{Ordered, IsPayment};
+ghost use Rattle.verdict_table.specs.Rows.{SpanIs, SpansOf, row-of, Fitting};
 
 // A part of the message.
 pub struct Span {
@@ -33,7 +38,7 @@ pub struct Spans {
 }
 
 // The part that an element holds; 0, 0 where there is none.
-pub fn span_of(tree: &[u16], found: Found) -> Span
+pub fn span_of(tree: &Tree, found: Found) -> Span
     ensures { λ r. ⌜ ((s : List ℕ) (o : Option Element) → Finds s (now (tree .entry)) o found → SpanIs s (part-of o) r) ⌝ }
 {
     let Found::At(i) = found else {
@@ -50,19 +55,19 @@ pub fn span_of(tree: &[u16], found: Found) -> Span
     }
 }
 
-fn spans_of(s: &[u8], tree: &[u16], own: usize, block: usize) -> Spans
-    ensures { λ r. ⌜ ((p : Payment) (m n : ℕ) → Laid (now (s .entry)) (now (tree .entry)) (p .own) own m → Laid (now (s .entry)) (now (tree .entry)) (p .block) block n
-        → SpansOf (now (s .entry)) p r) ⌝ }
+fn spans_of(tree: &Tree, routes: &Routes, own: &Children, block: &Children) -> Spans
+    ensures { λ r. ⌜ ((s : List ℕ) (p : Payment) → RoutesAre (now (routes .entry)) → ByName s (now (tree .entry)) (p .own) (now (own .entry))
+        → ByName s (now (tree .entry)) (p .block) (now (block .entry)) → SpansOf s p r) ⌝ }
 {
-    let id = span_of(tree, tree_fields::field_at(s, tree, own, block, 10));
-    let creditor = span_of(tree, tree_fields::field_at(s, tree, own, block, 14));
-    let name = span_of(tree, tree_fields::field_at(s, tree, own, block, 13));
-    let ultimate = span_of(tree, tree_fields::field_at(s, tree, own, block, 8));
+    let id = span_of(tree, tree_fields::field_at(tree, routes, own, block, 10));
+    let creditor = span_of(tree, tree_fields::field_at(tree, routes, own, block, 14));
+    let name = span_of(tree, tree_fields::field_at(tree, routes, own, block, 13));
+    let ultimate = span_of(tree, tree_fields::field_at(tree, routes, own, block, 8));
     let kind = span_of(
         tree,
-        tree_routes::inherited1(s, tree, own, block, b"PmtTpInf"),
+        tree_routes::either(tree_routes::first(own, 16), tree_routes::first(block, 16)),
     );
-    let debtor = span_of(tree, tree_fields::field_at(s, tree, own, block, 6));
+    let debtor = span_of(tree, tree_fields::field_at(tree, routes, own, block, 6));
     Spans {
         id,
         creditor,
@@ -75,9 +80,7 @@ fn spans_of(s: &[u8], tree: &[u16], own: usize, block: usize) -> Spans
 
 // The sixteen numbers, each of 32 bits.
 fn row(number: usize, of: Spans, cents: u64, at: usize) -> [u32; 16]
-    ensures { λ r. ⌜ r ≡ number % 4294967296 ∷ of .id .start % 4294967296 ∷ of .id .size % 4294967296 ∷ of .creditor .start % 4294967296 ∷ of .creditor .size % 4294967296
-        ∷ of .name .start % 4294967296 ∷ of .name .size % 4294967296 ∷ of .ultimate .start % 4294967296 ∷ of .ultimate .size % 4294967296 ∷ of .kind .start % 4294967296
-        ∷ of .kind .size % 4294967296 ∷ of .debtor .start % 4294967296 ∷ of .debtor .size % 4294967296 ∷ cents / 100 % 4294967296 ∷ cents % 100 ∷ at % 4294967296 ∷ [] ⌝ }
+    ensures { λ r. ⌜ r ≡ row-of number of cents at ⌝ }
 {
     [
         (number % 4294967296) as u32,
@@ -116,31 +119,42 @@ fn put(table: &mut [u32], at: usize, numbers: [u32; 16])
     }
 }
 
-// The sixteen numbers of the payment `own` in its block.
-fn numbers_of(s: &[u8], tree: &[u16], own: usize, block: usize, number: usize) -> [u32; 16]
-    ensures { λ r. ⌜ (length (now (s .entry)) ≤ 32768 → (p : Payment) (m n : ℕ) → Laid (now (s .entry)) (now (tree .entry)) (p .own) own m
-        → Laid (now (s .entry)) (now (tree .entry)) (p .block) block n → Fitting p → number ≡ p .block-number → r ≡ numbers-of p) ⌝ }
+// The sixteen numbers of a payment.
+fn numbers_of(
+    s: &[u8],
+    tree: &Tree,
+    routes: &Routes,
+    payment: PaymentAt,
+    block: &Children,
+) -> [u32; 16]
+    ensures { λ r. ⌜ (length (now (s .entry)) ≤ 32768 → RoutesAre (now (routes .entry)) → (p : Payment) → IsPayment (now (s .entry)) (now (tree .entry)) payment p
+        → ByName (now (s .entry)) (now (tree .entry)) (p .block) (now (block .entry)) → Fitting p → r ≡ numbers-of p) ⌝ }
 {
-    let of = spans_of(s, tree, own, block);
-    let cents = rule_totals::amount(s, tree, own);
-    row(number, of, cents, tree::cell(tree, own, 0))
+    let own = tree_routes::by_name(tree, payment.own);
+    let of = spans_of(tree, routes, &own, block);
+    let cents = rule_totals::amount(s, tree, payment.own);
+    row(payment.number, of, cents, tree::cell(tree, payment.own, 0))
 }
 
-// Each payment's numbers, in the order of the payments; every later number stays.
-pub fn fill(s: &[u8], tree: &[u16], order: &[u16], many: usize, table: &mut [u32])
+// Each payment's numbers, in the order of the payments; every later number stays. The first children of a block are known while the block stays the same; of
+// no element at first.
+pub fn fill(s: &[u8], tree: &Tree, order: &Order, payments: usize, table: &mut [u32])
     ensures { λ r. ⌜ (length (now (s .entry)) ≤ 32768 → (root : Element) → Ordered (now (s .entry)) (now (tree .entry)) (now (order .entry)) root
-        → many ≡ length (payments root) → many ≤ 64 → All Fitting (payments root) → 1024 ≤ length (now (table .entry))
-        → now (table .exit) ≡ each numbers-of (payments root) ++ drop (16 * length (payments root)) (now (table .entry))) ⌝ }
+        → payments ≡ length (all-payments root) → payments ≤ 64 → All Fitting (all-payments root) → 1024 ≤ length (now (table .entry))
+        → now (table .exit) ≡ each numbers-of (all-payments root) ++ drop (16 * length (all-payments root)) (now (table .entry))) ⌝ }
 {
+    let routes = tree_fields::routes();
     let mut k = 0;
-    while k < many {
-        if 64 <= k {
+    let mut known = tree::ELEMENTS;
+    let mut block = tree_routes::by_name(tree, known);
+    while k < payments {
+        if paper::MOST_PAYMENTS <= k {
             return;
         }
-        let own = tree::number(order, 16 + 3 * k);
-        let block = tree::number(order, 17 + 3 * k);
-        let number = tree::number(order, 18 + 3 * k);
-        put(table, 16 * k, numbers_of(s, tree, own, block, number));
+        let payment = rule_limits::payment(order, k);
+        block = tree_routes::by_name_again(tree, payment.block, known, block);
+        known = payment.block;
+        put(table, 16 * k, numbers_of(s, tree, &routes, payment, &block));
         k += 1;
     }
 }

@@ -1,4 +1,4 @@
-//! Writes the data of the crate `fields_run` and what its program must print.
+//! Writes the data of the crate `run_fields` and what its program must print.
 //!
 //!     cargo run --release --offline --example fields FOLDER
 //!
@@ -12,7 +12,7 @@ use std::path::Path;
 fn main() -> std::io::Result<()> {
     let folder = std::env::args_os().nth(1).expect("the folder");
     let folder = Path::new(&folder);
-    let (cases, lines) = common::written::fields_run();
+    let (cases, lines) = common::written::run_fields();
     std::fs::create_dir_all(folder.join("data"))?;
     std::fs::write(folder.join("data/cases"), cases)?;
     std::fs::write(folder.join("stdout"), lines)

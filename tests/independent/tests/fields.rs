@@ -1,4 +1,4 @@
-//! The cases of the crate `fields_run`: that they leave nothing out, and that its files hold them.
+//! The cases of the crate `run_fields`: that they leave nothing out, and that its files hold them.
 
 mod common;
 use common::asked::{self, Asked};
@@ -196,7 +196,7 @@ fn every_answer_is_reached() {
 #[test]
 fn the_files_of_the_crate_hold_the_cases_and_the_lines() {
     let folder = concat!(env!("CARGO_MANIFEST_DIR"), "/../../crates/run_fields");
-    let (cases, lines) = written::fields_run();
+    let (cases, lines) = written::run_fields();
     let file = |name| std::fs::read(format!("{folder}/{name}")).unwrap();
     assert!(file("data/cases") == cases, "examples/fields.rs writes other cases");
     assert!(file("stdout") == lines.as_bytes(), "examples/fields.rs writes other lines");

@@ -32,7 +32,7 @@ word-requires c κs = search needs
 
 returns-4 : tie.Need-returns-4
 unfolding declaration bytes
-returns-4 c = first (omega arith) (λ _. declared (c .before .before .before .before .before .before .before .before .args .s .now) (search needs) (c .before .before .before .before .if2 .left) (c .before .before .if3 .left)) (via (λ _. before) (c .word .ensures (omega arith)))
+returns-4 c = first (omega arith) (λ _. declared (c .before .before .before .before .before .before .before .before .args .s .now) (search needs) (c .before .before .before .before .if2 .left) (c .before .before .if3 .left)) (via (λ _. before) (c .word .ensures (omega arith) .reads))
 
 pub prologue-spec : {M : Type 1} → statement M
 prologue-spec =

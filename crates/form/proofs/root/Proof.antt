@@ -1,9 +1,14 @@
--- `form::root` meets its contract: perhaps the declaration, white space, and the root.
-use Rattle.form.proofs.RootLaws.{prologue-stops, whole-root}
+use mathlib.Core.Path.{_≡_, refl, sym, ap, subst, _∙_}
 use Rattle.form_scans.proofs.Laws.{reached}
+use Rattle.form.proofs.RootLaws.{prologue-stops, whole-root}
 use borrow.Author.Needs.{needs}
 use Rattle.form.proofs.root.Statement.{statement}
 use Rattle.form.proofs.root.Tie as tie
+use Rattle.form.proofs.root.Reads as reads
+use Rattle.form.proofs.root.Lts as lts
+use Rattle.form.proofs.prologue.Reads as prologue-reads
+use Rattle.form.proofs.root_at.Reads as root-at-reads
+use Rattle.form_scans.proofs.white_end.Reads as white-end-reads
 
 prologue-requires : tie.Need-prologue-requires
 prologue-requires c κs = search needs
@@ -18,13 +23,13 @@ white-end-requires : tie.Need-white-end-requires
 white-end-requires c κs = search needs
 
 root-at-requires : tie.Need-root-at-requires
-root-at-requires c κs = (c .white-end .ensures (reached (c .before .before .before .before .prologue .ensures) (c .before .before .p .given .1) .within) .through .within, c .white-end .ensures (reached (c .before .before .before .before .prologue .ensures) (c .before .before .p .given .1) .within) .other)
+root-at-requires c κs = (c .before .before .before .before .before .before .before .pre, (c .white-end .ensures (c .before .before .before .before .before .before .before .pre) (reached (c .before .before .before .before .before .prologue .ensures) (c .before .before .before .p .given .1) .within)) .through .within, (c .white-end .ensures (c .before .before .before .before .before .before .before .pre) (reached (c .before .before .before .before .before .prologue .ensures) (c .before .before .before .p .given .1) .within)) .other)
 
 returns : tie.Need-returns
-returns c = prologue-stops (c .before .before .before .prologue .ensures) (c .before .n .given .1)
+returns c = (refl, prologue-stops (c .before .before .before .prologue .ensures) (c .before .n .given .1))
 
 returns-2 : tie.Need-returns-2
-returns-2 c = whole-root (c .before .before .before .before .before .prologue .ensures) (c .before .before .before .p .given .1) (c .before .white-end .ensures (reached (c .before .before .before .before .before .prologue .ensures) (c .before .before .before .p .given .1) .within)) (c .root-at .ensures)
+returns-2 c = (c .root-at .ensures .0, whole-root (c .before .before .before .before .before .before .prologue .ensures) (c .before .before .before .before .p .given .1) (c .before .white-end .ensures (c .before .before .before .before .before .before .before .before .pre) (reached (c .before .before .before .before .before .before .prologue .ensures) (c .before .before .before .before .p .given .1) .within)) (c .root-at .ensures .1))
 
 pub root-spec : {M : Type 1} → statement M
 root-spec =

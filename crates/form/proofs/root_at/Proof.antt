@@ -1,12 +1,16 @@
--- `form::root_at` meets its contract: the root's start tag, and then what it holds.
 use native.Mathlib.Omega.{arith}
-use Rattle.paper.specs.Form.{root-tag}
+use mathlib.Core.Path.{_≡_, refl, sym, ap, subst, _∙_}
 use Rattle.paper.specs.Bytes.{bytes}
-use Rattle.form.proofs.RootLaws.{root-stops, root-read}
+use Rattle.paper.specs.Form.{root-tag}
 use Rattle.form_scans.proofs.Laws.{reached}
+use Rattle.form.proofs.RootLaws.{root-stops, root-length, root-read}
 use borrow.Author.Needs.{needs}
 use Rattle.form.proofs.root_at.Statement.{statement}
 use Rattle.form.proofs.root_at.Tie as tie
+use Rattle.form.proofs.root_at.Reads as reads
+use Rattle.form.proofs.root_at.Lts as lts
+use Rattle.form.proofs.in_root.Reads as in-root-reads
+use Rattle.form_scans.proofs.word.Reads as word-reads
 
 slice-aggregate-word : tie.Need-slice-aggregate-word
 slice-aggregate-word c = search needs
@@ -20,19 +24,17 @@ enum-known-n c = search needs
 enum-known-p : tie.Need-enum-known-p
 enum-known-p c = search needs
 
-slice-aggregate-content : tie.Need-slice-aggregate-content
-slice-aggregate-content c = search needs
-
-content-requires : tie.Need-content-requires
-content-requires c κs = (reached (c .before .before .before .before .word .ensures (search needs)) (c .before .before .p .given .1) .within, omega arith)
+in-root-requires : tie.Need-in-root-requires
+unfolding root-tag bytes
+in-root-requires c κs = (c .before .before .before .before .before .before .before .pre .0, reached ((c .before .before .before .before .word .ensures (c .before .before .before .before .before .before .before .pre .1)) .reads) (c .before .before .p .given .1) .within, root-length (c .before .before .before .before .before .before .before .pre .2) (c .before .before .before .before .word .ensures (c .before .before .before .before .before .before .before .pre .1)) (c .before .before .p .given .1))
 
 returns : tie.Need-returns
 unfolding root-tag bytes
-returns c = root-stops (c .before .before .before .before .before .before .pre .1) (c .before .before .before .word .ensures (search needs)) (c .before .n .given .1)
+returns c = (refl, root-stops (c .before .before .before .before .before .before .pre .2) (c .before .before .before .word .ensures (c .before .before .before .before .before .before .pre .1)) (c .before .n .given .1))
 
 returns-2 : tie.Need-returns-2
 unfolding root-tag bytes
-returns-2 c = root-read (c .before .before .before .before .before .before .before .before .pre .1) (c .before .before .before .before .before .word .ensures (search needs)) (c .before .before .before .p .given .1) (c .content .ensures)
+returns-2 c = (c .in-root .ensures .0, root-read (c .before .before .before .before .before .before .before .before .pre .2) (c .before .before .before .before .before .word .ensures (c .before .before .before .before .before .before .before .before .pre .1)) (c .before .before .before .p .given .1) (c .in-root .ensures .1))
 
 pub root-at-spec : {M : Type 1} → statement M
 root-at-spec =
@@ -42,7 +44,6 @@ root-at-spec =
     word-requires
     enum-known-n
     enum-known-p
-    slice-aggregate-content
-    content-requires
+    in-root-requires
     returns
     returns-2)

@@ -1,10 +1,13 @@
--- `scans::currency` meets its contract: `Ccy="`, three capitals, and then `">`.
 use Rattle.paper.specs.Bytes.{bytes}
 use Rattle.form_scans.proofs.Laws.{reached}
 use Rattle.form_scans.proofs.TagLaws.{currency-stops, letters-stop, currency-read}
 use borrow.Author.Needs.{needs}
 use Rattle.form_scans.proofs.currency.Statement.{statement}
 use Rattle.form_scans.proofs.currency.Tie as tie
+use Rattle.form_scans.proofs.currency.Reads as reads
+use Rattle.form_scans.proofs.currency.Lts as lts
+use Rattle.form_scans.proofs.three_capitals.Reads as three-capitals-reads
+use Rattle.form_scans.proofs.word.Reads as word-reads
 
 slice-aggregate-word : tie.Need-slice-aggregate-word
 slice-aggregate-word c = search needs
@@ -19,7 +22,7 @@ enum-known-p : tie.Need-enum-known-p
 enum-known-p c = search needs
 
 three-capitals-requires : tie.Need-three-capitals-requires
-three-capitals-requires c κs = reached (c .before .before .before .word .ensures (search needs)) (c .before .p .given .1) .within
+three-capitals-requires c κs = reached (c .before .before .before .word .ensures (search needs) .reads) (c .before .p .given .1) .within
 
 enum-known-n-2 : tie.Need-enum-known-n-2
 enum-known-n-2 c = search needs
@@ -35,15 +38,15 @@ word-requires-2 c κs = search needs
 
 returns : tie.Need-returns
 unfolding bytes
-returns c = λ depth lt. currency-stops (c .before .before .before .before .before .before .args .s .now) depth lt (c .before .before .before .before .before .before .args .at) _ (c .before .before .before .word .ensures (search needs)) (c .before .n .given .1)
+returns c = λ n depth lt e. currency-stops _ depth lt _ _ (c .before .before .before .word .ensures (search needs)) (c .before .n .given .1)
 
 returns-2 : tie.Need-returns-2
 unfolding bytes
-returns-2 c = λ depth lt. letters-stop (c .before .before .before .before .before .before .before .before .before .before .args .s .now) depth lt (c .before .before .before .before .before .before .before .before .before .before .args .at) _ _ (c .before .before .before .before .before .before .before .word .ensures (search needs)) (c .before .before .before .before .before .p .given .1) (c .before .before .before .three-capitals .ensures) (c .before .n2 .given .1)
+returns-2 c = λ n depth lt e. letters-stop _ depth lt _ _ _ (c .before .before .before .before .before .before .before .word .ensures (search needs)) (c .before .before .before .before .before .p .given .1) (c .before .before .before .three-capitals .ensures n) (c .before .n2 .given .1)
 
 returns-3 : tie.Need-returns-3
 unfolding bytes
-returns-3 c = λ depth lt. currency-read (c .before .before .before .before .before .before .before .before .before .before .before .before .args .s .now) depth lt (c .before .before .before .before .before .before .before .before .before .before .before .before .args .at) _ _ (c .before .before .before .before .before .before .before .before .before .word .ensures (search needs)) (c .before .before .before .before .before .before .before .p .given .1) (c .before .before .before .before .before .three-capitals .ensures) (c .before .before .before .q .given .1) (c .word2 .ensures (reached (c .before .before .before .before .before .three-capitals .ensures) (c .before .before .before .q .given .1) .within))
+returns-3 c = λ n depth lt e. currency-read _ depth lt _ _ _ e (c .before .before .before .before .before .before .before .before .before .word .ensures (search needs)) (c .before .before .before .before .before .before .before .p .given .1) (c .before .before .before .before .before .three-capitals .ensures n) (c .before .before .before .q .given .1) (c .word2 .ensures (reached (c .before .before .before .before .before .three-capitals .ensures n .reads) (c .before .before .before .q .given .1) .within))
 
 pub currency-spec : {M : Type 1} → statement M
 currency-spec =

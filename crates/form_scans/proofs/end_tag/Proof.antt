@@ -1,12 +1,13 @@
--- `scans::end_tag` meets its contract: `</`, the name, and then `>`.
-use Rattle.paper.specs.Bytes.{bytes}
-use Rattle.paper.specs.Computed.Reading.{want}
 use mathlib.Core.List.{_++_}
+use Rattle.paper.specs.Bytes.{bytes}
 use Rattle.paper.specs.Form.{end-tag}
-use Rattle.form_scans.proofs.Laws.{reached, halts, first, via, chain, want-append}
+use Rattle.form_scans.proofs.Laws.{reached, word-halts, word-then}
 use borrow.Author.Needs.{needs}
 use Rattle.form_scans.proofs.end_tag.Statement.{statement}
 use Rattle.form_scans.proofs.end_tag.Tie as tie
+use Rattle.form_scans.proofs.end_tag.Reads as reads
+use Rattle.form_scans.proofs.end_tag.Lts as lts
+use Rattle.form_scans.proofs.word.Reads as word-reads
 
 slice-aggregate-word : tie.Need-slice-aggregate-word
 slice-aggregate-word c = search needs
@@ -37,15 +38,15 @@ word-requires-3 c κs = search needs
 
 returns : tie.Need-returns
 unfolding end-tag bytes
-returns c = λ h. first (search needs) (want-append (c .before .before .before .before .before .before .before .args .s .now) (bytes "</") (c .before .before .before .before .before .before .before .args .name .now ++ bytes ">") (c .before .before .before .before .before .before .before .args .at)) (halts (via (λ q. want (c .before .before .before .before .before .before .before .args .name .now ++ bytes ">") q) (c .before .before .before .word .ensures h)) (c .before .n .given .1))
+returns c = λ h. word-halts (bytes "</") (c .before .before .before .before .before .before .before .args .name .now ++ bytes ">") (c .before .before .before .word .ensures h) (c .before .n .given .1)
 
 returns-2 : tie.Need-returns-2
 unfolding end-tag bytes
-returns-2 c = λ h. first (search needs) (want-append (c .before .before .before .before .before .before .before .before .before .before .before .args .s .now) (bytes "</") (c .before .before .before .before .before .before .before .before .before .before .before .args .name .now ++ bytes ">") (c .before .before .before .before .before .before .before .before .before .before .before .args .at)) (chain (via (λ q. want (c .before .before .before .before .before .before .before .before .before .before .before .args .name .now ++ bytes ">") q) (c .before .before .before .before .before .before .before .word .ensures h)) (c .before .before .before .before .before .p .given .1) (λ _. first (search needs) (want-append (c .before .before .before .before .before .before .before .before .before .before .before .args .s .now) (c .before .before .before .before .before .before .before .before .before .before .before .args .name .now) (bytes ">") _) (halts (via (λ q. want (bytes ">") q) (c .before .before .before .word2 .ensures (reached (c .before .before .before .before .before .before .before .word .ensures h) (c .before .before .before .before .before .p .given .1) .within))) (c .before .n2 .given .1))))
+returns-2 c = λ h. word-then (bytes "</") (c .before .before .before .before .before .before .before .before .before .before .before .args .name .now ++ bytes ">") (c .before .before .before .before .before .before .before .word .ensures h) (c .before .before .before .before .before .p .given .1) (word-halts (c .before .before .before .before .before .before .before .before .before .before .before .args .name .now) (bytes ">") (c .before .before .before .word2 .ensures (reached (c .before .before .before .before .before .before .before .word .ensures h .reads) (c .before .before .before .before .before .p .given .1) .within)) (c .before .n2 .given .1))
 
 returns-3 : tie.Need-returns-3
 unfolding end-tag bytes
-returns-3 c = λ h. first (search needs) (want-append (c .before .before .before .before .before .before .before .before .before .before .before .before .before .args .s .now) (bytes "</") (c .before .before .before .before .before .before .before .before .before .before .before .before .before .args .name .now ++ bytes ">") (c .before .before .before .before .before .before .before .before .before .before .before .before .before .args .at)) (chain (via (λ q. want (c .before .before .before .before .before .before .before .before .before .before .before .before .before .args .name .now ++ bytes ">") q) (c .before .before .before .before .before .before .before .before .before .word .ensures h)) (c .before .before .before .before .before .before .before .p .given .1) (λ _. first (search needs) (want-append (c .before .before .before .before .before .before .before .before .before .before .before .before .before .args .s .now) (c .before .before .before .before .before .before .before .before .before .before .before .before .before .args .name .now) (bytes ">") _) (chain (via (λ q. want (bytes ">") q) (c .before .before .before .before .before .word2 .ensures (reached (c .before .before .before .before .before .before .before .before .before .word .ensures h) (c .before .before .before .before .before .before .before .p .given .1) .within))) (c .before .before .before .q .given .1) (λ _. c .word3 .ensures (reached (c .before .before .before .before .before .word2 .ensures (reached (c .before .before .before .before .before .before .before .before .before .word .ensures h) (c .before .before .before .before .before .before .before .p .given .1) .within)) (c .before .before .before .q .given .1) .within)))))
+returns-3 c = λ h. let l = reached (c .before .before .before .before .before .before .before .before .before .word .ensures h .reads) (c .before .before .before .before .before .before .before .p .given .1) .within in let m = reached (c .before .before .before .before .before .word2 .ensures l .reads) (c .before .before .before .q .given .1) .within in word-then (bytes "</") (c .before .before .before .before .before .before .before .before .before .before .before .before .before .args .name .now ++ bytes ">") (c .before .before .before .before .before .before .before .before .before .word .ensures h) (c .before .before .before .before .before .before .before .p .given .1) (word-then (c .before .before .before .before .before .before .before .before .before .before .before .before .before .args .name .now) (bytes ">") (c .before .before .before .before .before .word2 .ensures l) (c .before .before .before .q .given .1) (c .word3 .ensures m))
 
 pub end-tag-spec : {M : Type 1} → statement M
 end-tag-spec =

@@ -12,7 +12,7 @@ enum-told : tie.Need-enum-told
 enum-told c = search needs
 
 returns : tie.Need-returns
-returns c = λ o f. meant (c .before .before .before .before .before .args .otherwise .now) (found-none f (c .enum-told .given .1))
+returns c = λ o f. meant (c .before .before .before .before .args .otherwise .now) (found-none f (c .enum-told .given .1))
 
 text-requires : tie.Need-text-requires
 text-requires c κs = search needs
@@ -21,7 +21,10 @@ same-requires : tie.Need-same-requires
 same-requires c κs = search needs
 
 returns-2 : tie.Need-returns-2
-returns-2 c = λ o f. let t = found-some f (c .before .before .before .found .given .1) in said (c .before .before .before .before .before .before .before .before .args .otherwise .now) (t .is-it) (one-text (c .same .ensures) refl (c .before .text .ensures (t .it) (t .next) (t .laid)))
+returns-2 c =
+    λ o f.
+    let t = found-some f (c .before .before .before .found .given .1) in
+    said (c .before .before .before .before .before .before .before .args .otherwise .now) (t .is-it) (one-text (c .same .ensures) refl (c .before .text .ensures (t .it) (t .laid)))
 
 pub means-spec : {M : Type 1} → statement M
 means-spec =

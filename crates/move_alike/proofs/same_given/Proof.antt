@@ -36,7 +36,11 @@ same-requires : tie.Need-same-requires
 same-requires c κs = search needs
 
 returns-3 : tie.Need-returns-3
-returns-3 c = λ o u f g. let t = found-some f (c .before .before .before .before .before .before .before .found1 .given .1) in let v = found-some g (c .before .before .before .before .found2 .given .1) in both-there (t .is-it) (v .is-it) (one-text (c .same .ensures) (c .before .before .text .ensures (t .it) (t .next) (t .laid)) (c .before .text2 .ensures (v .it) (v .next) (v .laid)))
+returns-3 c =
+    λ o u f g.
+    let t = found-some f (c .before .before .before .before .before .before .before .found1 .given .1) in
+    let v = found-some g (c .before .before .before .before .found2 .given .1) in
+    both-there (t .is-it) (v .is-it) (one-text (c .same .ensures) (c .before .before .text .ensures (t .it) (t .laid)) (c .before .text2 .ensures (v .it) (v .laid)))
 
 pub same-given-spec : {M : Type 1} → statement M
 same-given-spec =

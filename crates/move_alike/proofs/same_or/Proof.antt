@@ -15,7 +15,8 @@ means-requires : tie.Need-means-requires
 means-requires c κs = search needs
 
 returns : tie.Need-returns
-returns c = λ o u f g. meant-first (c .before .before .before .before .before .before .before .before .args .otherwise .now) o u (found-none f (c .before .enum-told .given .1)) (c .means .ensures u g)
+returns c =
+    λ o u f g. meant-first (c .before .before .before .before .before .before .args .otherwise .now) o u (found-none f (c .before .enum-told .given .1)) (c .means .ensures u g)
 
 enum-known-found2 : tie.Need-enum-known-found2
 enum-known-found2 c = search needs
@@ -30,7 +31,10 @@ same-requires : tie.Need-same-requires
 same-requires c κs = search needs
 
 returns-2 : tie.Need-returns-2
-returns-2 c = λ o u f g. let t = found-some f (c .before .before .before .before .before .found1 .given .1) in meant-second (c .before .before .before .before .before .before .before .before .before .before .before .before .args .otherwise .now) o u (t .is-it) (found-none g (c .before .before .enum-told2 .given .1)) (one-text (c .same .ensures) (c .before .text .ensures (t .it) (t .next) (t .laid)) refl)
+returns-2 c =
+    λ o u f g.
+    let t = found-some f (c .before .before .before .before .before .found1 .given .1) in
+    meant-second (c .before .before .before .before .before .before .before .before .before .before .args .otherwise .now) o u (t .is-it) (found-none g (c .before .before .enum-told2 .given .1)) (one-text (c .same .ensures) (c .before .text .ensures (t .it) (t .laid)) refl)
 
 text-requires-2 : tie.Need-text-requires-2
 text-requires-2 c κs = search needs
@@ -42,7 +46,12 @@ same-requires-2 : tie.Need-same-requires-2
 same-requires-2 c κs = search needs
 
 returns-3 : tie.Need-returns-3
-returns-3 c = λ o u f g. let t = found-some f (c .before .before .before .before .before .before .before .found1 .given .1) in let v = found-some g (c .before .before .before .before .found2 .given .1) in both-said (c .before .before .before .before .before .before .before .before .before .before .before .before .before .before .args .otherwise .now) o u (t .is-it) (v .is-it) (one-text (c .same2 .ensures) (c .before .before .text2 .ensures (t .it) (t .next) (t .laid)) (c .before .text3 .ensures (v .it) (v .next) (v .laid)))
+returns-3 c =
+    λ o u f g.
+    let t = found-some f (c .before .before .before .before .before .before .before .found1 .given .1) in
+    let v = found-some g (c .before .before .before .before .found2 .given .1) in
+    let e = one-text (c .same2 .ensures) (c .before .before .text2 .ensures (t .it) (t .laid)) (c .before .text3 .ensures (v .it) (v .laid)) in
+    both-said (c .before .before .before .before .before .before .before .before .before .before .before .before .args .otherwise .now) o u (t .is-it) (v .is-it) e
 
 pub same-or-spec : {M : Type 1} → statement M
 same-or-spec =

@@ -16,7 +16,10 @@ same-given-requires : tie.Need-same-given-requires
 same-given-requires c κs = search needs
 
 returns : tie.Need-returns
-returns c = λ p q m n l k. references-differ (issuer-of p) (issuer-of q) (reference-of p) (reference-of q) (c .before .same-given .ensures _ _ (c .before .before .before .reference .ensures p m l) (c .before .before .reference2 .ensures q n k)) (not-true _ (c .if1 .taken))
+returns c =
+    λ p q b d.
+    let e = c .before .same-given .ensures _ _ (c .before .before .before .reference .ensures _ p b) (c .before .before .reference2 .ensures _ q d) in
+    references-differ (issuer-of p) (issuer-of q) (reference-of p) (reference-of q) e (not-true _ (c .if1 .taken))
 
 enum-told : tie.Need-enum-told
 enum-told c = search needs
@@ -25,7 +28,11 @@ enum-told-2 : tie.Need-enum-told-2
 enum-told-2 c = search needs
 
 returns-2 : tie.Need-returns-2
-returns-2 c = λ p q m n l k. no-reference (issuer-of p) (issuer-of q) (reference-of p) (reference-of q) (c .before .before .before .same-given .ensures _ _ (c .before .before .before .before .before .reference .ensures p m l) (c .before .before .before .before .reference2 .ensures q n k)) (not-false _ (c .before .before .if1 .left)) (found-none (c .before .before .before .before .before .reference .ensures p m l) (c .enum-told2 .given .1))
+returns-2 c =
+    λ p q b d.
+    let f = c .before .before .before .before .before .reference .ensures _ p b in
+    let e = c .before .before .before .same-given .ensures _ _ f (c .before .before .before .before .reference2 .ensures _ q d) in
+    no-reference (issuer-of p) (issuer-of q) (reference-of p) (reference-of q) e (not-false _ (c .before .before .if1 .left)) (found-none f (c .enum-told2 .given .1))
 
 issuer-requires : tie.Need-issuer-requires
 issuer-requires c κs = search needs
@@ -37,7 +44,13 @@ same-given-requires-2 : tie.Need-same-given-requires-2
 same-given-requires-2 c κs = search needs
 
 returns-3 : tie.Need-returns-3
-returns-3 c = λ p q m n l k. references-agree (issuer-of p) (issuer-of q) (reference-of p) (reference-of q) (c .before .before .before .before .before .before .same-given .ensures _ _ (c .before .before .before .before .before .before .before .before .reference .ensures p m l) (c .before .before .before .before .before .before .before .reference2 .ensures q n k)) (not-false _ (c .before .before .before .before .before .if1 .left)) (found-some (c .before .before .before .before .before .before .before .before .reference .ensures p m l) (c .before .before .before .enum-told .given .1) .is-it) (c .same-given2 .ensures _ _ (c .before .before .issuer .ensures p m l) (c .before .issuer2 .ensures q n k))
+returns-3 c =
+    λ p q b d.
+    let f = c .before .before .before .before .before .before .before .before .reference .ensures _ p b in
+    let t = found-some f (c .before .before .before .enum-told .given .1) .is-it in
+    let e = c .before .before .before .before .before .before .same-given .ensures _ _ f (c .before .before .before .before .before .before .before .reference2 .ensures _ q d) in
+    let i = c .same-given2 .ensures _ _ (c .before .before .issuer .ensures _ p b) (c .before .issuer2 .ensures _ q d) in
+    references-agree (issuer-of p) (issuer-of q) (reference-of p) (reference-of q) e (not-false _ (c .before .before .before .before .before .if1 .left)) t i
 
 pub same-structured-spec : {M : Type 1} → statement M
 same-structured-spec =

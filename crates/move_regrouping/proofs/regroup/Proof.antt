@@ -1,21 +1,15 @@
-use denote.Ref.{now}
-use native.Mathlib.Omega.{arith}
-use Prim.Native.Nat.{ℕ}
-use lib.ListN.{length-replicate}
 use Rattle.move_regrouping.proofs.Laws.{first-refused, first-accepted}
+use lib.ListN.{length-replicate}
+use Prim.Native.Nat.{ℕ}
+use native.Mathlib.Omega.{arith}
+use denote.Ref.{now}
 use borrow.Author.Needs.{needs}
 use Rattle.move_regrouping.proofs.regroup.Statement.{statement}
 use Rattle.move_regrouping.proofs.regroup.Tie as tie
 use Rattle.move_regrouping.proofs.regroup.Reads as reads
 use Rattle.move_regrouping.proofs.regroup.Lts as lts
-use Rattle.verdict_stages.proofs.outcome.Reads as outcome-reads
 use Rattle.move_regrouping.proofs.with_second.Reads as with-second-reads
-
-slice-aggregate-outcome : tie.Need-slice-aggregate-outcome
-slice-aggregate-outcome c = search needs
-
-slice-aggregate-outcome-2 : tie.Need-slice-aggregate-outcome-2
-slice-aggregate-outcome-2 c = search needs
+use Rattle.verdict_stages.proofs.outcome.Reads as outcome-reads
 
 outcome-requires : tie.Need-outcome-requires
 outcome-requires c κs = search needs
@@ -26,32 +20,22 @@ enum-known-found c = search needs
 enum-known-found-2 : tie.Need-enum-known-found-2
 enum-known-found-2 c = search needs
 
-slice-aggregate-with-second : tie.Need-slice-aggregate-with-second
-slice-aggregate-with-second c = search needs
-
-slice-aggregate-with-second-2 : tie.Need-slice-aggregate-with-second-2
-slice-aggregate-with-second-2 c = search needs
-
 with-second-requires : tie.Need-with-second-requires
 with-second-requires c κs = search needs
 
 returns : tie.Need-returns
-returns c = first-refused (now (c .before .before .before .before .before .before .before .before .before .before .before .args .second)) (now (c .before .before .before .before .before .before .before .before .before .before .before .args .list)) (c .before .before .before .before .before .outcome .ensures (omega (arith, length-replicate {A = ℕ} 54615 0)) (omega (arith, length-replicate {A = ℕ} 208 0))) (c .before .found .given .1)
+returns c = first-refused (now (c .before .before .before .before .before .before .before .before .before .args .second)) (now (c .before .before .before .before .before .before .before .before .before .args .list)) (c .before .before .before .outcome .ensures (omega (arith, length-replicate {A = ℕ} 28200 0)) (omega (arith, length-replicate {A = ℕ} 208 0))) (c .before .found .given .1)
 
 returns-2 : tie.Need-returns-2
-returns-2 c = first-accepted (now (c .before .before .before .before .before .before .before .before .before .before .before .before .before .before .args .second)) (now (c .before .before .before .before .before .before .before .before .before .before .before .before .before .before .args .list)) (c .with-second .result) (c .before .before .before .before .before .before .before .before .outcome .ensures (omega (arith, length-replicate {A = ℕ} 54615 0)) (omega (arith, length-replicate {A = ℕ} 208 0))) (c .before .before .before .before .found2 .given .1) (λ root1 i. c .with-second .ensures root1 i)
+returns-2 c = first-accepted (now (c .before .before .before .before .before .before .before .before .before .before .before .before .args .second)) (now (c .before .before .before .before .before .before .before .before .before .before .before .before .args .list)) (c .with-second .result) (c .before .before .before .before .before .before .outcome .ensures (omega (arith, length-replicate {A = ℕ} 28200 0)) (omega (arith, length-replicate {A = ℕ} 208 0))) (c .before .before .before .before .found2 .given .1) (λ root1 i. c .with-second .ensures root1 i)
 
 pub regroup-spec : {M : Type 1} → statement M
 regroup-spec =
     tie.close
     (tie.spec
-    slice-aggregate-outcome
-    slice-aggregate-outcome-2
     outcome-requires
     enum-known-found
     enum-known-found-2
-    slice-aggregate-with-second
-    slice-aggregate-with-second-2
     with-second-requires
     returns
     returns-2)

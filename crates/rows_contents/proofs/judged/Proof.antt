@@ -1,12 +1,12 @@
-use mathlib.Core.Path.{sym, _∙_}
+use borrow.Author.Needs.{needs}
 use native.Mathlib.Omega.{arith}
+use mathlib.Core.Path.{sym, _∙_}
 use Rattle.paper.specs.Answers.{refusal-found, refusal-of, numbered}
 use Rattle.paper.specs.Refusals.{refuse}
-use Rattle.rows_contents.proofs.Leaves.{judged-as, within-message}
-use Rattle.tree.proofs.Laws.{at-cell, start-cell, close-cell}
-use Rattle.rows_contents.specs.Judged.{judgement}
+use Rattle.tree.proofs.Laws.{at-cell, start-cell}
 use Rattle.leaf_values.specs.Judgements.{told}
-use borrow.Author.Needs.{needs}
+use Rattle.rows_contents.specs.Judged.{judgement}
+use Rattle.rows_contents.proofs.Leaves.{judged-as, within-message}
 use Rattle.rows_contents.proofs.judged.Statement.{statement}
 use Rattle.rows_contents.proofs.judged.Tie as tie
 
@@ -20,7 +20,7 @@ cell-requires-3 : tie.Need-cell-requires-3
 cell-requires-3 c κs = search needs
 
 returns : tie.Need-returns
-returns c = λ r h next e p q n. absurd (omega (arith, at-cell e (c .before .before .before .cell .ensures), e .written .name-inside, e .written .start-first, e .written .close-inside))
+returns c r h next e p q n = absurd (omega (arith, at-cell e (c .before .before .before .cell .ensures), e .written .at-first, e .written .start-first, e .written .close-inside))
 
 add-part : tie.Need-add-part
 add-part c = search needs
@@ -33,6 +33,9 @@ part-requires c κs = search needs
 
 part-requires-2 : tie.Need-part-requires-2
 part-requires-2 c κs = search needs
+
+cell-requires-4 : tie.Need-cell-requires-4
+cell-requires-4 c κs = search needs
 
 leaf-requires : tie.Need-leaf-requires
 leaf-requires c κs = search needs
@@ -54,19 +57,22 @@ enum-told-3 c = search needs
 
 returns-2 : tie.Need-returns-2
 unfolding judgement refusal-found refusal-of numbered told refuse
-returns-2 c = λ r h next e p q n. sym (judged-as r h e p q n (at-cell e (c .before .before .before .before .before .before .before .before .cell .ensures)) (start-cell e (c .before .before .before .before .before .before .before .cell2 .ensures)) (close-cell e (c .before .before .before .before .before .before .cell3 .ensures)) (c .before .before .before .before .part .ensures) (c .before .before .before .part2 .ensures) (c .before .before .leaf .ensures) (c .enum-told .given .1))
+returns-2 c r h next e p q n = sym (judged-as r h e p q n (c .before .before .before .before .before .before .before .before .before .cell .ensures) (c .before .before .before .before .before .before .before .before .cell2 .ensures) (c .before .before .before .before .before .before .before .cell3 .ensures) (c .before .before .before .cell4 .ensures) (c .before .before .before .before .before .part .ensures) (c .before .before .before .before .part2 .ensures) (c .before .before .leaf .ensures) (c .enum-told .given .1))
 
 returns-3 : tie.Need-returns-3
 unfolding judgement refusal-found refusal-of numbered told refuse
-returns-3 c = λ r h next e p q n. rw (at-cell e (c .before .before .before .before .before .before .before .before .cell .ensures)) (sym (judged-as r h e p q n (at-cell e (c .before .before .before .before .before .before .before .before .cell .ensures)) (start-cell e (c .before .before .before .before .before .before .before .cell2 .ensures)) (close-cell e (c .before .before .before .before .before .before .cell3 .ensures)) (c .before .before .before .before .part .ensures) (c .before .before .before .part2 .ensures) (c .before .before .leaf .ensures) (c .enum-told2 .given .1)))
+returns-3 c r h next e p q n = rw (at-cell e (c .before .before .before .before .before .before .before .before .before .cell .ensures)) (sym (judged-as r h e p q n (c .before .before .before .before .before .before .before .before .before .cell .ensures) (c .before .before .before .before .before .before .before .before .cell2 .ensures) (c .before .before .before .before .before .before .before .cell3 .ensures) (c .before .before .before .cell4 .ensures) (c .before .before .before .before .before .part .ensures) (c .before .before .before .before .part2 .ensures) (c .before .before .leaf .ensures) (c .enum-told2 .given .1)))
 
 returns-4 : tie.Need-returns-4
 unfolding judgement refusal-found refusal-of numbered told refuse
-returns-4 c = λ r h next e p q n. let j = (judged-as r h e p q n (at-cell e (c .before .before .before .before .before .before .before .before .before .before .cell .ensures)) (start-cell e (c .before .before .before .before .before .before .before .before .before .cell2 .ensures)) (close-cell e (c .before .before .before .before .before .before .before .before .cell3 .ensures)) (c .before .before .before .before .before .before .part .ensures) (c .before .before .before .before .before .part2 .ensures) (c .before .before .before .before .leaf .ensures) (c .before .before .judgement .given .1)) in c .outside .ensures (omega (arith, start-cell e (c .before .before .before .before .before .before .before .before .before .cell2 .ensures), e .written .start-first, e .written .close-inside)) (within-message _ _ r h _ _ j) ∙ rw (start-cell e (c .before .before .before .before .before .before .before .before .before .cell2 .ensures)) (sym j)
+returns-4 c r h next e p q n =
+    let told-as = judged-as r h e p q n (c .before .before .before .before .before .before .before .before .before .before .before .cell .ensures) (c .before .before .before .before .before .before .before .before .before .before .cell2 .ensures) (c .before .before .before .before .before .before .before .before .before .cell3 .ensures) (c .before .before .before .before .before .cell4 .ensures) (c .before .before .before .before .before .before .before .part .ensures) (c .before .before .before .before .before .before .part2 .ensures) (c .before .before .before .before .leaf .ensures) (c .before .before .judgement .given .1) in
+    let start-is = start-cell e (c .before .before .before .before .before .before .before .before .before .before .cell2 .ensures) in
+    c .outside .ensures (omega (arith, start-is, e .written .start-first, e .written .close-inside)) (within-message _ _ r h _ _ told-as) ∙ rw start-is (sym told-as)
 
 returns-5 : tie.Need-returns-5
 unfolding judgement refusal-found refusal-of numbered told refuse
-returns-5 c = λ r h next e p q n. rw (at-cell e (c .before .before .before .before .before .before .before .before .cell .ensures)) (sym (judged-as r h e p q n (at-cell e (c .before .before .before .before .before .before .before .before .cell .ensures)) (start-cell e (c .before .before .before .before .before .before .before .cell2 .ensures)) (close-cell e (c .before .before .before .before .before .before .cell3 .ensures)) (c .before .before .before .before .part .ensures) (c .before .before .before .part2 .ensures) (c .before .before .leaf .ensures) (c .enum-told3 .given .1)))
+returns-5 c r h next e p q n = rw (at-cell e (c .before .before .before .before .before .before .before .before .before .cell .ensures)) (sym (judged-as r h e p q n (c .before .before .before .before .before .before .before .before .before .cell .ensures) (c .before .before .before .before .before .before .before .before .cell2 .ensures) (c .before .before .before .before .before .before .before .cell3 .ensures) (c .before .before .before .cell4 .ensures) (c .before .before .before .before .before .part .ensures) (c .before .before .before .before .part2 .ensures) (c .before .before .leaf .ensures) (c .enum-told3 .given .1)))
 
 pub judged-spec : {M : Type 1} → statement M
 judged-spec =
@@ -80,6 +86,7 @@ judged-spec =
     add-part-2
     part-requires
     part-requires-2
+    cell-requires-4
     leaf-requires
     enum-told
     enum-told-2

@@ -1,11 +1,11 @@
-use mathlib.Core.Path.{_∙_}
+use borrow.Author.Needs.{needs}
 use native.Mathlib.Omega.{arith}
+use mathlib.Core.Path.{_∙_}
 use Rattle.paper.specs.Answers.{refusal-found, refusal-of, numbered}
 use Rattle.paper.specs.Refusals.{refuse}
-use Rattle.rows_contents.proofs.Leaves.{black-refused, white-ends}
 use Rattle.tree.proofs.Laws.{start-cell, close-cell}
-use Rattle.rows_places.proofs.Parts.{between-is}
-use borrow.Author.Needs.{needs}
+use Rattle.rows_places.specs.Numbers.{places-left, places-of}
+use Rattle.rows_contents.proofs.Leaves.{text-there, white-there, black-refused, white-ends}
 use Rattle.rows_contents.proofs.text_in_group.Statement.{statement}
 use Rattle.rows_contents.proofs.text_in_group.Tie as tie
 
@@ -16,10 +16,13 @@ cell-requires-2 : tie.Need-cell-requires-2
 cell-requires-2 c κs = search needs
 
 returns : tie.Need-returns
-returns c = λ h next e. absurd (omega (arith, start-cell e (c .before .before .cell .ensures), e .written .start-first, e .written .close-inside))
+returns c h next e = absurd (omega (arith, start-cell e (c .before .before .cell .ensures), e .written .start-first, e .written .close-inside))
 
 part-requires : tie.Need-part-requires
 part-requires c κs = search needs
+
+cell-requires-3 : tie.Need-cell-requires-3
+cell-requires-3 c κs = search needs
 
 first-black-requires : tie.Need-first-black-requires
 first-black-requires c κs = search needs
@@ -30,12 +33,12 @@ of-entry-requires c κs = search needs
 wide-requires : tie.Need-wide-requires
 wide-requires c κs = search needs
 
-add-t15 : tie.Need-add-t15
-add-t15 c = search needs
+add-t17 : tie.Need-add-t17
+add-t17 c = search needs
 
 returns-2 : tie.Need-returns-2
 unfolding refusal-found refusal-of numbered refuse
-returns-2 c = λ h next e. black-refused _ h (c .before .before .before .before .part .ensures ∙ between-is _ (start-cell e (c .before .before .before .before .before .before .before .cell .ensures)) (close-cell e (c .before .before .before .before .before .before .cell2 .ensures))) (c .wide .ensures ∙ c .before .of-entry .ensures) (start-cell e (c .before .before .before .before .before .before .before .cell .ensures)) (c .before .before .before .first-black .ensures) (c .before .before .if2 .taken)
+returns-2 c h next e = black-refused _ h _ (text-there e (c .before .before .before .before .before .before .before .before .cell .ensures) (c .before .before .before .before .before .before .before .cell2 .ensures) (c .before .before .before .before .before .part .ensures)) (c .before .before .before .first-black .ensures (white-there e (c .before .before .before .before .before .before .before .before .cell .ensures) (c .before .before .before .before .before .before .before .cell2 .ensures) (c .before .before .before .before .before .part .ensures) (c .before .before .before .before .cell3 .ensures))) (c .wide .ensures ∙ c .before .of-entry .ensures) (start-cell e (c .before .before .before .before .before .before .before .before .cell .ensures)) (c .before .before .if2 .taken)
 
 of-entry-requires-2 : tie.Need-of-entry-requires-2
 of-entry-requires-2 c κs = search needs
@@ -43,11 +46,12 @@ of-entry-requires-2 c κs = search needs
 of-entry-requires-3 : tie.Need-of-entry-requires-3
 of-entry-requires-3 c κs = search needs
 
-ends-requires : tie.Need-ends-requires
-ends-requires c κs = search needs
+ended-requires : tie.Need-ended-requires
+ended-requires c κs = search needs
 
 returns-3 : tie.Need-returns-3
-returns-3 c = λ h next e. white-ends _ h (c .before .before .before .before .before .part .ensures ∙ between-is _ (start-cell e (c .before .before .before .before .before .before .before .before .cell .ensures)) (close-cell e (c .before .before .before .before .before .before .before .cell2 .ensures))) _ (c .before .before .before .before .first-black .ensures) (c .before .before .before .if2 .left) (rw (close-cell e (c .before .before .before .before .before .before .before .cell2 .ensures), c .before .before .of-entry2 .ensures, c .before .of-entry3 .ensures) at (c .ends .ensures))
+unfolding places-left places-of
+returns-3 c h next e = white-ends _ h _ (text-there e (c .before .before .before .before .before .before .before .before .before .cell .ensures) (c .before .before .before .before .before .before .before .before .cell2 .ensures) (c .before .before .before .before .before .before .part .ensures)) (c .before .before .before .before .first-black .ensures (white-there e (c .before .before .before .before .before .before .before .before .before .cell .ensures) (c .before .before .before .before .before .before .before .before .cell2 .ensures) (c .before .before .before .before .before .before .part .ensures) (c .before .before .before .before .before .cell3 .ensures))) (c .before .before .before .if2 .left) (rw (close-cell e (c .before .before .before .before .before .before .before .before .cell2 .ensures), c .before .before .of-entry2 .ensures, c .before .of-entry3 .ensures) at (c .ended .ensures))
 
 pub text-in-group-spec : {M : Type 1} → statement M
 text-in-group-spec =
@@ -57,12 +61,13 @@ text-in-group-spec =
     cell-requires-2
     returns
     part-requires
+    cell-requires-3
     first-black-requires
     of-entry-requires
     wide-requires
-    add-t15
+    add-t17
     returns-2
     of-entry-requires-2
     of-entry-requires-3
-    ends-requires
+    ended-requires
     returns-3)

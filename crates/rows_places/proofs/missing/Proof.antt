@@ -33,7 +33,7 @@ wide-requires c κs = search needs
 
 returns : tie.Need-returns Inv-loop μ-loop
 unfolding lacking
-returns c = sym (c .before .before .before .before .before .before .loop .inv ∙ missing-stops _ _ _ _ (c .before .before .before .before .before .loop-test .taken) (λ e. c .before .before .before .if1 .taken (c .before .before .before .before .of-place .ensures ∙ e)) ∙ ap some (sym (c .wide .ensures ∙ c .before .of-entry .ensures ∙ ap (λ (e : ℕ). of-entry (now (c .before .before .before .before .before .before .before .before .before .args .rows)) e 0) (c .before .before .of-place2 .ensures))))
+returns c = sym (c .before .before .before .before .before .before .loop .inv ∙ missing-stops _ _ _ _ (c .before .before .before .before .before .loop-test .taken) (λ e. c .before .before .before .if1 .taken (c .before .before .before .before .of-place .ensures ∙ e)) ∙ ap some (sym (c .wide .ensures ∙ c .before .of-entry .ensures ∙ ap (λ (e : ℕ). of-entry (now (c .before .before .before .before .before .before .before .args .rows)) e 0) (c .before .before .of-place2 .ensures))))
 
 add-p : tie.Need-add-p Inv-loop μ-loop
 add-p c = search needs

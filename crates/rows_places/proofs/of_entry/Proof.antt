@@ -1,26 +1,43 @@
+use mathlib.Core.Path.{sym, _∙_}
+use native.Mathlib.Omega.{arith}
 use borrow.Author.Needs.{needs}
+use Rattle.rows_places.proofs.Places.{number-there, no-line, no-number}
 use Rattle.rows_places.proofs.of_entry.Statement.{statement}
 use Rattle.rows_places.proofs.of_entry.Tie as tie
 
 wide-requires : tie.Need-wide-requires
 wide-requires c κs = search needs
 
-mul-number : tie.Need-mul-number
-mul-number c = search needs
-
-wide-requires-2 : tie.Need-wide-requires-2
-wide-requires-2 c κs = search needs
-
-add-number : tie.Need-add-number
-add-number c = search needs
-
-number-requires : tie.Need-number-requires
-number-requires c κs = search needs
-
 returns : tie.Need-returns
-returns c = rw (c .before .before .wide .ensures, c .before .wide2 .ensures) at (c .number .ensures)
+returns c = sym (no-line 56 6 _ _ _ (omega (arith, c .before .wide .ensures)))
+
+returns-2 : tie.Need-returns-2
+returns-2 c = sym (no-number 56 6 _ _ _ (omega (arith, c .before .before .wide .ensures)) (omega arith))
+
+mul-result : tie.Need-mul-result
+mul-result c = search needs
+
+mul-result-2 : tie.Need-mul-result-2
+mul-result-2 c = search needs
+
+index-1-result : tie.Need-index-1-result
+index-1-result c = search needs
+
+index-2-result : tie.Need-index-2-result
+index-2-result c = search needs
+
+returns-3 : tie.Need-returns-3
+returns-3 c = sym (number-there 56 6 _ _ _ (omega (arith, c .before .before .before .wide .ensures)) (omega arith) ∙ rw (← c .before .before .before .wide .ensures))
 
 pub of-entry-spec : {M : Type 1} → statement M
 of-entry-spec =
     tie.close
-    (tie.spec wide-requires mul-number wide-requires-2 add-number number-requires returns)
+    (tie.spec
+    wide-requires
+    returns
+    returns-2
+    mul-result
+    mul-result-2
+    index-1-result
+    index-2-result
+    returns-3)

@@ -15,7 +15,7 @@ enum-told : tie.Need-enum-told
 enum-told c = search needs
 
 returns : tie.Need-returns
-returns c = λ profile parent h next r e. seek-never profile _ _ _ parent (h .name) _ _ (c .before .before .find .ensures profile parent h next r e) (c .enum-told .given .1)
+returns c = λ profile parent s h next r e. seek-never profile _ _ parent (h .name) _ _ (c .before .before .find .ensures profile parent s h next r e) (c .enum-told .given .1)
 
 missing-requires : tie.Need-missing-requires
 missing-requires c κs = search needs
@@ -24,7 +24,7 @@ enum-known-lacks : tie.Need-enum-known-lacks
 enum-known-lacks c = search needs
 
 returns-2 : tie.Need-returns-2
-returns-2 c = λ profile parent h next r e. seek-early profile _ _ _ parent (h .name) _ _ (c .before .before .before .before .before .before .before .find .ensures profile parent h next r e) (c .before .before .before .before .before .standing .given .1) (c .before .before .before .missing .ensures) (c .before .lacks .given .1)
+returns-2 c = λ profile parent s h next r e. seek-early profile _ _ parent (h .name) _ _ (c .before .before .before .before .before .before .before .find .ensures profile parent s h next r e) (c .before .before .before .before .before .standing .given .1) (c .before .before .before .missing .ensures) (c .before .lacks .given .1)
 
 enum-told-2 : tie.Need-enum-told-2
 enum-told-2 c = search needs
@@ -33,16 +33,16 @@ of-place-requires : tie.Need-of-place-requires
 of-place-requires c κs = search needs
 
 returns-3 : tie.Need-returns-3
-returns-3 c = λ profile parent h next r e. seek-plus profile _ _ _ parent (h .name) _ _ (c .before .before .before .before .before .before .before .before .find .ensures profile parent h next r e) (c .before .before .before .before .before .before .standing .given .1) (c .before .before .before .before .missing .ensures) (c .before .before .enum-told2 .given .1) (sym (c .before .of-place .ensures) ∙ c .if1 .taken)
+returns-3 c = λ profile parent s h next r e. seek-plus profile _ _ parent (h .name) _ _ (c .before .before .before .before .before .before .before .before .find .ensures profile parent s h next r e) (c .before .before .before .before .before .before .standing .given .1) (c .before .before .before .before .missing .ensures) (c .before .before .enum-told2 .given .1) (sym (c .before .of-place .ensures) ∙ c .if1 .taken)
 
 returns-4 : tie.Need-returns-4
-returns-4 c = λ profile parent h next r e. absurd (omega (arith, at-inside profile _ _ _ parent (h .name) _ _ (c .before .before .before .before .before .before .before .before .before .find .ensures profile parent h next r e) (c .before .before .before .before .before .before .before .standing .given .1)))
+returns-4 c = λ profile parent s h next r e. absurd (omega (arith, at-inside profile _ _ parent (h .name) _ _ (c .before .before .before .before .before .before .before .before .before .find .ensures profile parent s h next r e) (c .before .before .before .before .before .before .before .standing .given .1)))
 
-add-t14 : tie.Need-add-t14
-add-t14 c = search needs
+add-t12 : tie.Need-add-t12
+add-t12 c = search needs
 
 returns-5 : tie.Need-returns-5
-returns-5 c = λ profile parent h next r e. seek-once profile _ _ _ parent (h .name) _ _ (c .before .before .before .before .before .before .before .before .before .find .ensures profile parent h next r e) (c .before .before .before .before .before .before .before .standing .given .1) (c .before .before .before .before .before .missing .ensures) (c .before .before .before .enum-told2 .given .1) (λ k. c .before .if1 .left (c .before .before .of-place .ensures ∙ k))
+returns-5 c = λ profile parent s h next r e. seek-once profile _ _ parent (h .name) _ _ (c .before .before .before .before .before .before .before .before .before .find .ensures profile parent s h next r e) (c .before .before .before .before .before .before .before .standing .given .1) (c .before .before .before .before .before .missing .ensures) (c .before .before .before .enum-told2 .given .1) (λ k. c .before .if1 .left (c .before .before .of-place .ensures ∙ k))
 
 pub seek-spec : {M : Type 1} → statement M
 seek-spec =
@@ -59,5 +59,5 @@ seek-spec =
     of-place-requires
     returns-3
     returns-4
-    add-t14
+    add-t12
     returns-5)

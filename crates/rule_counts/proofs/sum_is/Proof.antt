@@ -4,7 +4,7 @@ use lib.Dec.{eqb}
 use Rattle.paper.specs.Values.{cents}
 use Rattle.paper.specs.Answers.{refusal-of}
 use Rattle.paper.specs.declared.Fault.the-variants.{SumDiffers}
-use Rattle.tree_leaves.proofs.Leaves.{leaf-absent, leaf-right, leaf-wrong}
+use Rattle.rule_limits.proofs.Refusing.{leaf-absent, leaf-right, leaf-wrong}
 use borrow.Author.Needs.{needs}
 use Rattle.rule_counts.proofs.sum_is.Statement.{statement}
 use Rattle.rule_counts.proofs.sum_is.Tie as tie
@@ -17,7 +17,7 @@ enum-told c = search needs
 
 returns : tie.Need-returns
 unfolding refusal-of
-returns c = λ o n h read sums. leaf-absent (λ w. eqb (cents w) n) 13 (c .before .before .before .before .args .row) h (SumDiffers _ _) (c .enum-told .given .1) refl
+returns c = λ o n h read sums. leaf-absent (λ w. eqb (cents w) n) 13 (c .before .before .before .args .row) h (SumDiffers _ _) (c .enum-told .given .1) refl
 
 cents-at-requires : tie.Need-cents-at-requires
 cents-at-requires c κs = search needs
@@ -26,14 +26,14 @@ same-cents-requires : tie.Need-same-cents-requires
 same-cents-requires c κs = search needs
 
 returns-2 : tie.Need-returns-2
-returns-2 c = λ o n h read sums. leaf-right (λ w. eqb (cents w) n) 13 (c .before .before .before .before .before .before .before .before .args .row) h (c .before .before .before .before .found .given .1) (λ t next l is. sym (c .before .same-cents .ensures n sums ∙ ap (λ (c : ℕ). eqb c n) (c .before .before .cents-at .ensures t next l (read t is))) ∙ c .if1 .taken)
+returns-2 c = λ o n h read sums. leaf-right (λ w. eqb (cents w) n) 13 (c .before .before .before .before .before .before .before .args .row) h (c .before .before .before .before .found .given .1) (λ t l is. sym (c .before .same-cents .ensures n sums ∙ ap (λ (m : ℕ). eqb m n) (c .before .before .cents-at .ensures t l (read t is))) ∙ c .if1 .taken)
 
 cell-requires : tie.Need-cell-requires
 cell-requires c κs = search needs
 
 returns-3 : tie.Need-returns-3
 unfolding refusal-of
-returns-3 c = λ o n h read sums. leaf-wrong (λ w. eqb (cents w) n) 13 (c .before .before .before .before .before .before .before .before .before .args .row) h (SumDiffers _ _) (c .before .before .before .before .before .found .given .1) (λ t next l is. sym (c .before .before .same-cents .ensures n sums ∙ ap (λ (c : ℕ). eqb c n) (c .before .before .before .cents-at .ensures t next l (read t is))) ∙ c .before .if1 .left) (c .cell .ensures) refl
+returns-3 c = λ o n h read sums. leaf-wrong (λ w. eqb (cents w) n) 13 (c .before .before .before .before .before .before .before .before .args .row) h (SumDiffers _ _) (c .before .before .before .before .before .found .given .1) (λ t l is. sym (c .before .before .same-cents .ensures n sums ∙ ap (λ (m : ℕ). eqb m n) (c .before .before .before .cents-at .ensures t l (read t is))) ∙ c .before .if1 .left) (c .cell .ensures) refl
 
 pub sum-is-spec : {M : Type 1} → statement M
 sum-is-spec =

@@ -12,16 +12,16 @@ use Rattle.rule_totals.proofs.sum_of.Statement.{statement}
 use Rattle.rule_totals.proofs.sum_of.Tie as tie
 
 abbrev Inv-loop : tie.InvT-loop
-Inv-loop s tree out from to sum₀ k₀ sum k = (sum < 2 ^ 64) × ((ps : List Payment) → PaymentsAt s tree out from ps → to ≡ from + length ps → to ≤ 64 → All ReadPayment ps → Summing s tree out ps sum k to)
+Inv-loop s tree order from to sum₀ k₀ sum k = (sum < 2 ^ 64) × ((ps : List Payment) → PaymentsAt s tree order from ps → to ≡ from + length ps → to ≤ 64 → All ReadPayment ps → Summing s tree order ps sum k to)
 
 abbrev μ-loop : tie.MeasureT-loop
-μ-loop s tree out from to sum₀ k₀ sum k = to - k
+μ-loop s tree order from to sum₀ k₀ sum k = to - k
 
 loop-holds : tie.Need-loop-holds Inv-loop μ-loop
 loop-holds c = (search needs, λ ps a e f h. summing a e h)
 
-own-at-requires : tie.Need-own-at-requires Inv-loop μ-loop
-own-at-requires c κs = search needs
+payment-requires : tie.Need-payment-requires Inv-loop μ-loop
+payment-requires c κs = search needs
 
 amount-requires : tie.Need-amount-requires Inv-loop μ-loop
 amount-requires c κs = search needs
@@ -30,7 +30,7 @@ sub-if1 : tie.Need-sub-if1 Inv-loop μ-loop
 sub-if1 c = search needs
 
 returns : tie.Need-returns Inv-loop μ-loop
-returns c = λ ps a e f h. sum-exceeds (c .before .before .before .before .loop .inv .1 ps a e f h) (c .before .before .before .loop-test .taken) f (c .before .before .own-at .ensures) (c .before .amount .ensures) (c .before .before .before .before .loop .inv .0) (c .if1 .taken)
+returns c = λ ps a e f h. sum-exceeds (c .before .before .before .before .loop .inv .1 ps a e f h) (c .before .before .before .loop-test .taken) f (c .before .before .payment .ensures) (c .before .amount .ensures) (c .before .before .before .before .loop .inv .0) (c .if1 .taken)
 
 add-sum : tie.Need-add-sum Inv-loop μ-loop
 add-sum c = search needs
@@ -42,7 +42,7 @@ loop-less : tie.Need-loop-less Inv-loop μ-loop
 loop-less c = search needs
 
 loop-again : tie.Need-loop-again Inv-loop μ-loop
-loop-again c = (search needs, λ ps a e f h. sum-goes (c .before .before .before .before .loop .inv .1 ps a e f h) (c .before .before .before .loop-test .taken) f (c .before .before .own-at .ensures) (c .before .amount .ensures))
+loop-again c = (search needs, λ ps a e f h. sum-goes (c .before .before .before .before .loop .inv .1 ps a e f h) (c .before .before .before .loop-test .taken) f (c .before .before .payment .ensures) (c .before .amount .ensures))
 
 returns-2 : tie.Need-returns-2 Inv-loop μ-loop
 returns-2 c = λ ps a e f h. sum-ends (c .before .loop .inv .1 ps a e f h) (c .loop-test .left) (c .before .loop .inv .0)
@@ -54,7 +54,7 @@ sum-of-spec =
     Inv-loop
     μ-loop
     loop-holds
-    own-at-requires
+    payment-requires
     amount-requires
     sub-if1
     returns

@@ -1,4 +1,4 @@
--- `fields_run::each_field` is safe and ends.
+-- `run_fields::each_field` is safe and ends.
 use borrow.Author.Needs.{needs}
 use Prim.Native.Nat.{_-_}
 use Rattle.run_fields.proofs.each_field.Statement.{statement}

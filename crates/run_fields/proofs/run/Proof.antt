@@ -1,4 +1,4 @@
--- `fields_run::run` is safe and ends: the turns are counted down.
+-- `run_fields::run` is safe and ends: the turns are counted down.
 use borrow.Author.Needs.{needs}
 use Rattle.run_fields.proofs.run.Statement.{statement}
 use Rattle.run_fields.proofs.run.Tie as tie

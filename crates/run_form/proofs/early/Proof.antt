@@ -1,17 +1,20 @@
--- `form_run::early` is safe and ends: the count is at most the number of beginnings tried.
-use borrow.Author.Needs.{needs}
-use Prim.Native.Nat.{_-_, _≤_}
-use mathlib.Core.Path.{sym}
-use lib.ListN.{length}
+-- `run_form::early` is safe and ends: the count is at most the number of beginnings tried.
 use lib.Seq.{length-take-le}
+use lib.ListN.{length}
+use mathlib.Core.Path.{sym}
+use Prim.Native.Nat.{_-_, _≤_}
+use borrow.Author.Needs.{needs}
 use Rattle.run_form.proofs.early.Statement.{statement}
 use Rattle.run_form.proofs.early.Tie as tie
+use Rattle.run_form.proofs.early.Reads as reads
+use Rattle.run_form.proofs.early.Lts as lts
+use Rattle.run_form.proofs.ends_early.Reads as ends-early-reads
 
 abbrev Inv-loop : tie.InvT-loop
-Inv-loop s n₀ k₀ n k = n ≤ k
+Inv-loop s tree₀ n₀ k₀ tree n k = n ≤ k
 
 abbrev μ-loop : tie.MeasureT-loop
-μ-loop s n₀ k₀ n k = length s - k
+μ-loop s tree₀ n₀ k₀ tree n k = length s - k
 
 loop-holds : tie.Need-loop-holds Inv-loop μ-loop
 loop-holds c = search needs

@@ -1,13 +1,16 @@
--- `form_run::run` is safe and ends: the turns are counted down.
+-- `run_form::run` is safe and ends: the turns are counted down.
 use borrow.Author.Needs.{needs}
 use Rattle.run_form.proofs.run.Statement.{statement}
 use Rattle.run_form.proofs.run.Tie as tie
+use Rattle.run_form.proofs.run.Reads as reads
+use Rattle.run_form.proofs.run.Lts as lts
+use Rattle.run_form.proofs.case_at.Reads as case-at-reads
 
 abbrev Inv-loop : tie.InvT-loop
-Inv-loop s at₀ turns₀ at turns = Unit {0}
+Inv-loop s tree₀ at₀ turns₀ tree at turns = Unit {0}
 
 abbrev μ-loop : tie.MeasureT-loop
-μ-loop s at₀ turns₀ at turns = turns
+μ-loop s tree₀ at₀ turns₀ tree at turns = turns
 
 loop-holds : tie.Need-loop-holds Inv-loop μ-loop
 loop-holds c = search needs

@@ -1,4 +1,4 @@
--- `frames::digits_end` is safe, ends, and stays within the file.
+-- `run_frames::digits_end` is safe, ends, and stays within the file.
 use borrow.Author.Needs.{needs}
 use Prim.Native.Nat.{_-_}
 use lib.ListN.{length}

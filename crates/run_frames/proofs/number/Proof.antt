@@ -1,4 +1,4 @@
--- `frames::number` is safe and ends. The number is looked at before it is multiplied, so it stays within 64 bits.
+-- `run_frames::number` is safe and ends. The number is looked at before it is multiplied, so it stays within 64 bits.
 use borrow.Author.Needs.{needs}
 use Prim.Native.Nat.{_-_}
 use Rattle.run_frames.proofs.number.Statement.{statement}

@@ -17,10 +17,10 @@ enum-known-n : tie.Need-enum-known-n
 enum-known-n c = search needs
 
 returns : tie.Need-returns
-returns c = λ t next l d. count-not (text-of t) (c .before .before .before .text .ensures t next l) (c .before .before .count-number .ensures) (c .enum-told .given .1) d
+returns c = λ t l d. count-not (text-of t) (c .before .before .before .text .ensures t l) (c .before .before .count-number .ensures) (c .enum-told .given .1) d
 
 returns-2 : tie.Need-returns-2
-returns-2 c = λ t next l d. count-read (text-of t) (c .before .before .before .before .text .ensures t next l) (c .before .before .before .count-number .ensures) (c .before .n .given .1) d
+returns-2 c = λ t l d. count-read (text-of t) (c .before .before .before .before .text .ensures t l) (c .before .before .before .count-number .ensures) (c .before .n .given .1) d
 
 pub count-at-spec : {M : Type 1} → statement M
 count-at-spec =

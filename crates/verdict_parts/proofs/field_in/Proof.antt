@@ -1,14 +1,8 @@
+use borrow.Author.Needs.{needs}
 use native.Mathlib.Omega.{arith}
 use Rattle.verdict_parts.proofs.Spans.{found-part}
-use borrow.Author.Needs.{needs}
 use Rattle.verdict_parts.proofs.field_in.Statement.{statement}
 use Rattle.verdict_parts.proofs.field_in.Tie as tie
-use Rattle.verdict_parts.proofs.field_in.Reads as reads
-use Rattle.verdict_parts.proofs.field_in.Lts as lts
-use Rattle.tree_fields.proofs.field_at.Reads as field-at-reads
-use Rattle.verdict_parts.proofs.part.Reads as part-reads
-use Rattle.verdict_table.proofs.span_of.Reads as span-of-reads
-use Rattle.tree.proofs.number.Reads as number-reads
 
 sub-result : tie.Need-sub-result
 sub-result c = search needs
@@ -22,23 +16,17 @@ part-result-end c = search needs
 returns : tie.Need-returns
 returns c = λ root o l k. absurd (omega arith)
 
-mul-number : tie.Need-mul-number
-mul-number c = search needs
+payment-requires : tie.Need-payment-requires
+payment-requires c κs = search needs
 
-add-number : tie.Need-add-number
-add-number c = search needs
+by-name-requires : tie.Need-by-name-requires
+by-name-requires c κs = search needs
 
-number-requires : tie.Need-number-requires
-number-requires c κs = search needs
+by-name-requires-2 : tie.Need-by-name-requires-2
+by-name-requires-2 c κs = search needs
 
-mul-number-2 : tie.Need-mul-number-2
-mul-number-2 c = search needs
-
-add-number-2 : tie.Need-add-number-2
-add-number-2 c = search needs
-
-number-requires-2 : tie.Need-number-requires-2
-number-requires-2 c κs = search needs
+routes-requires : tie.Need-routes-requires
+routes-requires c κs = search needs
 
 field-at-requires : tie.Need-field-at-requires
 field-at-requires c κs = search needs
@@ -50,7 +38,11 @@ part-requires : tie.Need-part-requires
 part-requires c κs = search needs
 
 returns-2 : tie.Need-returns-2
-returns-2 c = λ root o l k. found-part (c .before .before .before .before .before .before .before .before .before .args .k) (c .before .before .before .before .before .before .before .before .before .args .field) o l (c .before .before .before .before .number .ensures) (c .before .before .before .number2 .ensures) (c .before .before .field-at .ensures) (λ t u. c .before .span-of .ensures t u) (c .part .ensures)
+returns-2 c = λ root o l k.
+    let order = c .before .before .before .before .before .before .before .before .before in
+    let known = order .before .before .before .args in
+    found-part (known .k) (known .field) o l (order .payment .ensures k) (c .before .before .before .before .before .before .before .before .by-name .ensures) (c .before .before .before .before .before .before .before .by-name2 .ensures)
+    (λ s p own block. c .before .before .field-at .ensures s p (c .before .before .before .before .before .before .routes .ensures) own block) (λ s u. c .before .span-of .ensures s u) (c .part .ensures)
 
 pub field-in-spec : {M : Type 1} → statement M
 field-in-spec =
@@ -60,12 +52,10 @@ field-in-spec =
     part-result-start
     part-result-end
     returns
-    mul-number
-    add-number
-    number-requires
-    mul-number-2
-    add-number-2
-    number-requires-2
+    payment-requires
+    by-name-requires
+    by-name-requires-2
+    routes-requires
     field-at-requires
     span-of-requires
     part-requires

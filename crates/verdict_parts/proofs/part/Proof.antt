@@ -5,8 +5,6 @@ use Rattle.verdict_parts.proofs.Spans.{so-many}
 use borrow.Author.Needs.{needs}
 use Rattle.verdict_parts.proofs.part.Statement.{statement}
 use Rattle.verdict_parts.proofs.part.Tie as tie
-use Rattle.verdict_parts.proofs.part.Reads as reads
-use Rattle.verdict_parts.proofs.part.Lts as lts
 
 sub-result : tie.Need-sub-result
 sub-result c = search needs

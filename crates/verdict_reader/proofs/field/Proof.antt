@@ -1,8 +1,8 @@
-use native.Mathlib.Omega.{arith}
-use Prim.Native.Nat.{ℕ}
-use mathlib.Core.Path.{refl}
-use lib.ListN.{length-replicate}
 use Rattle.verdict_reader.proofs.Parts.{no-such-payment, no-field, the-field}
+use lib.ListN.{length-replicate}
+use mathlib.Core.Path.{refl}
+use Prim.Native.Nat.{ℕ}
+use native.Mathlib.Omega.{arith}
 use borrow.Author.Needs.{needs}
 use Rattle.verdict_reader.proofs.field.Statement.{statement}
 use Rattle.verdict_reader.proofs.field.Tie as tie
@@ -10,12 +10,6 @@ use Rattle.verdict_reader.proofs.field.Reads as reads
 use Rattle.verdict_reader.proofs.field.Lts as lts
 use Rattle.verdict_parts.proofs.field_in.Reads as field-in-reads
 use Rattle.verdict_stages.proofs.outcome.Reads as outcome-reads
-
-slice-aggregate-outcome : tie.Need-slice-aggregate-outcome
-slice-aggregate-outcome c = search needs
-
-slice-aggregate-outcome-2 : tie.Need-slice-aggregate-outcome-2
-slice-aggregate-outcome-2 c = search needs
 
 outcome-requires : tie.Need-outcome-requires
 outcome-requires c κs = search needs
@@ -45,29 +39,21 @@ part-result-end-2 : tie.Need-part-result-end-2
 part-result-end-2 c = search needs
 
 returns : tie.Need-returns
-returns c = no-such-payment (c .before .before .before .before .before .before .before .before .before .before .before .args .payment) (c .before .before .before .before .before .before .before .before .before .before .before .args .field) (c .before .before .before .before .before .before .before .outcome .ensures (omega (arith, length-replicate {A = ℕ} 54615 0)) (omega (arith, length-replicate {A = ℕ} 208 0))) (c .before .before .before .found .given .1) (c .before .if1 .taken) (record { bytes-are = refl; in-the-message = refl; at-its-place = search needs })
-
-slice-aggregate-field-in : tie.Need-slice-aggregate-field-in
-slice-aggregate-field-in c = search needs
-
-slice-aggregate-field-in-2 : tie.Need-slice-aggregate-field-in-2
-slice-aggregate-field-in-2 c = search needs
+returns c = no-such-payment (c .before .before .before .before .before .before .before .before .before .args .payment) (c .before .before .before .before .before .before .before .before .before .args .field) (c .before .before .before .before .before .outcome .ensures (omega (arith, length-replicate {A = ℕ} 28200 0)) (omega (arith, length-replicate {A = ℕ} 208 0))) (c .before .before .before .found .given .1) (c .before .if1 .taken) (record { bytes-are = refl; in-the-message = refl; at-its-place = search needs })
 
 field-in-requires : tie.Need-field-in-requires
 field-in-requires c κs = search needs
 
 returns-2 : tie.Need-returns-2
-returns-2 c = no-field (c .before .before .before .before .before .before .before .before .before .args .payment) (c .before .before .before .before .before .before .before .before .before .args .field) (c .before .before .before .before .before .outcome .ensures (omega (arith, length-replicate {A = ℕ} 54615 0)) (omega (arith, length-replicate {A = ℕ} 208 0))) (c .before .enum-told .given .1) (record { bytes-are = refl; in-the-message = refl; at-its-place = search needs })
+returns-2 c = no-field (c .before .before .before .before .before .before .before .args .payment) (c .before .before .before .before .before .before .before .args .field) (c .before .before .before .outcome .ensures (omega (arith, length-replicate {A = ℕ} 28200 0)) (omega (arith, length-replicate {A = ℕ} 208 0))) (c .before .enum-told .given .1) (record { bytes-are = refl; in-the-message = refl; at-its-place = search needs })
 
 returns-3 : tie.Need-returns-3
-returns-3 c = the-field (c .before .before .before .before .before .before .before .before .before .before .before .before .before .args .payment) (c .before .before .before .before .before .before .before .before .before .before .before .before .before .args .field) (c .before .before .before .before .before .before .before .before .before .outcome .ensures (omega (arith, length-replicate {A = ℕ} 54615 0)) (omega (arith, length-replicate {A = ℕ} 208 0))) (c .before .before .before .before .before .found .given .1) (c .before .before .before .if1 .left) (c .field-in .ensures)
+returns-3 c = the-field (c .before .before .before .before .before .before .before .before .before .before .before .args .payment) (c .before .before .before .before .before .before .before .before .before .before .before .args .field) (c .before .before .before .before .before .before .before .outcome .ensures (omega (arith, length-replicate {A = ℕ} 28200 0)) (omega (arith, length-replicate {A = ℕ} 208 0))) (c .before .before .before .before .before .found .given .1) (c .before .before .before .if1 .left) (c .field-in .ensures)
 
 pub field-spec : {M : Type 1} → statement M
 field-spec =
     tie.close
     (tie.spec
-    slice-aggregate-outcome
-    slice-aggregate-outcome-2
     outcome-requires
     enum-told
     sub-result
@@ -78,8 +64,6 @@ field-spec =
     part-result-start-2
     part-result-end-2
     returns
-    slice-aggregate-field-in
-    slice-aggregate-field-in-2
     field-in-requires
     returns-2
     returns-3)

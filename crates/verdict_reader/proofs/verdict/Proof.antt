@@ -1,8 +1,8 @@
-use native.Mathlib.Omega.{arith}
-use denote.Ref.{now}
-use Prim.Native.Nat.{ℕ}
-use lib.ListN.{length-replicate}
 use Rattle.verdict_reader.proofs.Verdicts.{too-short, refused-promise, accepted-promise}
+use lib.ListN.{length-replicate}
+use Prim.Native.Nat.{ℕ}
+use denote.Ref.{now}
+use native.Mathlib.Omega.{arith}
 use borrow.Author.Needs.{needs}
 use Rattle.verdict_reader.proofs.verdict.Statement.{statement}
 use Rattle.verdict_reader.proofs.verdict.Tie as tie
@@ -14,12 +14,6 @@ use Rattle.verdict_table.proofs.fill.Reads as fill-reads
 returns : tie.Need-returns
 returns c = too-short (now (c .before .before .before .args .message)) (now (c .before .before .before .args .table)) (c .if1 .taken)
 
-slice-aggregate-outcome : tie.Need-slice-aggregate-outcome
-slice-aggregate-outcome c = search needs
-
-slice-aggregate-outcome-2 : tie.Need-slice-aggregate-outcome-2
-slice-aggregate-outcome-2 c = search needs
-
 outcome-requires : tie.Need-outcome-requires
 outcome-requires c κs = search needs
 
@@ -29,36 +23,26 @@ enum-known-found c = search needs
 enum-known-found-2 : tie.Need-enum-known-found-2
 enum-known-found-2 c = search needs
 
-slice-aggregate-fill : tie.Need-slice-aggregate-fill
-slice-aggregate-fill c = search needs
-
-slice-aggregate-fill-2 : tie.Need-slice-aggregate-fill-2
-slice-aggregate-fill-2 c = search needs
-
 fill-requires : tie.Need-fill-requires
 fill-requires c κs = search needs
 
 returns-2 : tie.Need-returns-2
-returns-2 c = refused-promise (c .before .before .before .before .before .before .before .before .if1 .left) (c .before .before .before .before .before .outcome .ensures (omega (arith, length-replicate {A = ℕ} 54615 0)) (omega (arith, length-replicate {A = ℕ} 208 0))) (c .before .found .given .1)
+returns-2 c = refused-promise (c .before .before .before .before .before .before .if1 .left) (c .before .before .before .outcome .ensures (omega (arith, length-replicate {A = ℕ} 28200 0)) (omega (arith, length-replicate {A = ℕ} 208 0))) (c .before .found .given .1)
 
 same-length : tie.Need-same-length
 same-length c = search needs
 
 returns-3 : tie.Need-returns-3
-returns-3 c = accepted-promise (c .before .before .before .before .before .before .before .before .before .before .before .before .before .before .if1 .left) (c .before .before .before .before .before .before .before .before .before .before .before .outcome .ensures (omega (arith, length-replicate {A = ℕ} 54615 0)) (omega (arith, length-replicate {A = ℕ} 208 0))) (c .before .before .before .before .before .before .before .found2 .given .1) (c .before .before .fill .ensures)
+returns-3 c = accepted-promise (c .before .before .before .before .before .before .before .before .before .before .before .before .if1 .left) (c .before .before .before .before .before .before .before .before .before .outcome .ensures (omega (arith, length-replicate {A = ℕ} 28200 0)) (omega (arith, length-replicate {A = ℕ} 208 0))) (c .before .before .before .before .before .before .before .found2 .given .1) (c .before .before .fill .ensures)
 
 pub verdict-spec : {M : Type 1} → statement M
 verdict-spec =
     tie.close
     (tie.spec
     returns
-    slice-aggregate-outcome
-    slice-aggregate-outcome-2
     outcome-requires
     enum-known-found
     enum-known-found-2
-    slice-aggregate-fill
-    slice-aggregate-fill-2
     fill-requires
     returns-2
     same-length

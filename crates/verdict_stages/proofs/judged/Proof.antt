@@ -4,39 +4,39 @@ use Rattle.verdict_stages.proofs.judged.Statement.{statement}
 use Rattle.verdict_stages.proofs.judged.Tie as tie
 use Rattle.verdict_stages.proofs.judged.Reads as reads
 use Rattle.verdict_stages.proofs.judged.Lts as lts
-use Rattle.rule_ids.proofs.ids.Reads as ids-reads
+use Rattle.rule_ids.proofs.ids_refusal.Reads as ids-refusal-reads
+use Rattle.rule_usage.proofs.usage_refusal.Reads as usage-refusal-reads
 use Rattle.verdict_stages.proofs.sums.Reads as sums-reads
-use Rattle.rule_usage.proofs.usage.Reads as usage-reads
 
 enum-known-values : tie.Need-enum-known-values
 enum-known-values c = search needs
 
 returns : tie.Need-returns
-returns c = λ root next l v o b p few small. first-refuses _ _ v (c .before .values .given .1)
+returns c = λ root l v o b p few small. first-refuses _ _ v (c .before .values .given .1)
 
 enum-told : tie.Need-enum-told
 enum-told c = search needs
 
-usage-requires : tie.Need-usage-requires
-usage-requires c κs = search needs
+usage-refusal-requires : tie.Need-usage-refusal-requires
+usage-refusal-requires c κs = search needs
 
 enum-known-usage : tie.Need-enum-known-usage
 enum-known-usage c = search needs
 
 returns-2 : tie.Need-returns-2
-returns-2 c = λ root next l v o b p few small. later-passes _ _ v (c .before .before .before .before .enum-told .given .1) (first-refuses _ _ (c .before .before .before .usage .ensures root o p few) (c .before .usage2 .given .1))
+returns-2 c = λ root l v o b p few small. later-passes _ _ v (c .before .before .before .before .enum-told .given .1) (first-refuses _ _ (c .before .before .before .usage-refusal .ensures _ root o p few) (c .before .usage .given .1))
 
 enum-told-2 : tie.Need-enum-told-2
 enum-told-2 c = search needs
 
-ids-requires : tie.Need-ids-requires
-ids-requires c κs = search needs
+ids-refusal-requires : tie.Need-ids-refusal-requires
+ids-refusal-requires c κs = search needs
 
 enum-known-ids : tie.Need-enum-known-ids
 enum-known-ids c = search needs
 
 returns-3 : tie.Need-returns-3
-returns-3 c = λ root next l v o b p few small. later-passes _ _ v (c .before .before .before .before .before .before .before .enum-told .given .1) (later-passes _ _ (c .before .before .before .before .before .before .usage .ensures root o p few) (c .before .before .before .before .enum-told2 .given .1) (first-refuses _ _ (c .before .before .before .ids .ensures root o b) (c .before .ids2 .given .1)))
+returns-3 c = λ root l v o b p few small. later-passes _ _ v (c .before .before .before .before .before .before .before .enum-told .given .1) (later-passes _ _ (c .before .before .before .before .before .before .usage-refusal .ensures _ root o p few) (c .before .before .before .before .enum-told2 .given .1) (first-refuses _ _ (c .before .before .before .ids-refusal .ensures root o b small) (c .before .ids .given .1)))
 
 enum-told-3 : tie.Need-enum-told-3
 enum-told-3 c = search needs
@@ -45,7 +45,7 @@ sums-requires : tie.Need-sums-requires
 sums-requires c κs = search needs
 
 returns-4 : tie.Need-returns-4
-returns-4 c = λ root next l v o b p few small. later-passes _ _ v (c .before .before .before .before .before .before .before .enum-told .given .1) (later-passes _ _ (c .before .before .before .before .before .before .usage .ensures root o p few) (c .before .before .before .before .enum-told2 .given .1) (later-passes _ _ (c .before .before .before .ids .ensures root o b) (c .before .enum-told3 .given .1) (c .sums .ensures root next l o b p few (no-values-refusal root v (c .before .before .before .before .before .before .before .enum-told .given .1)) small)))
+returns-4 c = λ root l v o b p few small. later-passes _ _ v (c .before .before .before .before .before .before .before .enum-told .given .1) (later-passes _ _ (c .before .before .before .before .before .before .usage-refusal .ensures _ root o p few) (c .before .before .before .before .enum-told2 .given .1) (later-passes _ _ (c .before .before .before .ids-refusal .ensures root o b small) (c .before .enum-told3 .given .1) (c .sums .ensures root l o b p few (no-values-refusal root v (c .before .before .before .before .before .before .before .enum-told .given .1)) small)))
 
 pub judged-spec : {M : Type 1} → statement M
 judged-spec =
@@ -54,11 +54,11 @@ judged-spec =
     enum-known-values
     returns
     enum-told
-    usage-requires
+    usage-refusal-requires
     enum-known-usage
     returns-2
     enum-told-2
-    ids-requires
+    ids-refusal-requires
     enum-known-ids
     returns-3
     enum-told-3

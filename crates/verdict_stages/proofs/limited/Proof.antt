@@ -5,11 +5,11 @@ use Rattle.verdict_stages.proofs.limited.Statement.{statement}
 use Rattle.verdict_stages.proofs.limited.Tie as tie
 use Rattle.verdict_stages.proofs.limited.Reads as reads
 use Rattle.verdict_stages.proofs.limited.Lts as lts
-use Rattle.rule_limits.proofs.order.Reads as order-reads
+use Rattle.rule_limits.proofs.limits_refusal.Reads as limits-refusal-reads
 use Rattle.verdict_stages.proofs.judged.Reads as judged-reads
 
-order-requires : tie.Need-order-requires
-order-requires c κs = search needs
+limits-refusal-requires : tie.Need-limits-refusal-requires
+limits-refusal-requires c κs = search needs
 
 enum-known-limits : tie.Need-enum-known-limits
 enum-known-limits c = search needs
@@ -20,27 +20,19 @@ enum-known-limits-2 c = search needs
 judged-requires : tie.Need-judged-requires
 judged-requires c κs = search needs
 
-same-length : tie.Need-same-length
-same-length c = search needs
-
 returns : tie.Need-returns
-returns c = λ root next l room n v. limits-refused n (c .before .before .before .before .before .order .ensures .1 root next l) (c .before .limits .given .1)
-
-same-length-2 : tie.Need-same-length-2
-same-length-2 c = search needs
+returns c = λ root l room n v. limits-refused n (c .before .before .before .limits-refusal .ensures .1 _ root l room) (c .before .limits .given .1)
 
 returns-2 : tie.Need-returns-2
-returns-2 c = λ root next l room n v. limits-passed n (c .before .before .before .before .before .before .before .order .ensures .1 root next l) (c .before .before .before .limits2 .given .1) (omega (arith, c .before .before .before .before .before .before .before .order .kept .1 .1 .0)) (λ o b p. c .judged .ensures root next l v o b p (few-payments (c .before .before .before .before .before .before .before .order .ensures .0) (c .before .before .before .limits2 .given .1)) (few-blocks (c .before .before .before .before .before .before .before .order .ensures .0) (c .before .before .before .limits2 .given .1)))
+returns-2 c = λ root l room n v. limits-passed n (c .before .before .before .before .before .limits-refusal .ensures .1 _ root l room) (c .before .before .before .limits2 .given .1) (λ o b p. c .judged .ensures root l v o b p (few-payments (c .before .before .before .before .before .limits-refusal .ensures .0) (c .before .before .before .limits2 .given .1)) (few-blocks (c .before .before .before .before .before .limits-refusal .ensures .0) (c .before .before .before .limits2 .given .1)))
 
 pub limited-spec : {M : Type 1} → statement M
 limited-spec =
     tie.close
     (tie.spec
-    order-requires
+    limits-refusal-requires
     enum-known-limits
     enum-known-limits-2
     judged-requires
-    same-length
     returns
-    same-length-2
     returns-2)

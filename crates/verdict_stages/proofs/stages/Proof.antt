@@ -1,18 +1,19 @@
-use Rattle.rows.specs.Walk.{refusal-by}
-use Rattle.paper.specs.Rows.{rows}
-use Rattle.paper_acceptance.proofs.OneWalk.{rows-too}
 use Rattle.verdict_stages.proofs.InTurn.{rows-refused, rows-refused-first, no-rows-refusal, no-values-refusal, found-as}
+use Rattle.paper_acceptance.proofs.OneWalk.{rows-too}
+use Rattle.paper.specs.Rows.{rows}
+use Rattle.rows.specs.Walk.{refusal-by}
+use native.Mathlib.Omega.{arith}
 use borrow.Author.Needs.{needs}
 use Rattle.verdict_stages.proofs.stages.Statement.{statement}
 use Rattle.verdict_stages.proofs.stages.Tie as tie
 use Rattle.verdict_stages.proofs.stages.Reads as reads
 use Rattle.verdict_stages.proofs.stages.Lts as lts
-use Rattle.rows.proofs.check.Reads as check-reads
+use Rattle.rows.proofs.rows_refusal.Reads as rows-refusal-reads
 use Rattle.verdict_stages.proofs.limited.Reads as limited-reads
 use Rattle.verdict_stages.proofs.of_rows.Reads as of-rows-reads
 
-check-requires : tie.Need-check-requires
-check-requires c κs = search needs
+rows-refusal-requires : tie.Need-rows-refusal-requires
+rows-refusal-requires c κs = search needs
 
 enum-told : tie.Need-enum-told
 enum-told c = search needs
@@ -28,17 +29,17 @@ of-rows-requires c κs = search needs
 
 returns : tie.Need-returns
 unfolding refusal-by
-returns c = λ root next l room. rows-refused-first (c .before .before .before .before .before .check .ensures root next l) (c .before .before .before .values .given .1) (c .before .of-rows .ensures (c .if1 .taken))
+returns c = λ root l room. rows-refused-first (c .before .before .before .before .before .rows-refusal .ensures root l) (c .before .before .before .values .given .1) (c .before .of-rows .ensures (c .if1 .taken))
 
-check-requires-2 : tie.Need-check-requires-2
-check-requires-2 c κs = search needs
+rows-refusal-requires-2 : tie.Need-rows-refusal-requires-2
+rows-refusal-requires-2 c κs = search needs
 
 enum-known-shape : tie.Need-enum-known-shape
 enum-known-shape c = search needs
 
 returns-2 : tie.Need-returns-2
 unfolding refusal-by
-returns-2 c = λ root next l room. rows-refused (c .before .before .before .check2 .ensures root next l) (c .before .shape .given .1)
+returns-2 c = λ root l room. rows-refused (c .before .before .before .rows-refusal2 .ensures root l) (c .before .shape .given .1)
 
 enum-told-2 : tie.Need-enum-told-2
 enum-told-2 c = search needs
@@ -46,36 +47,28 @@ enum-told-2 c = search needs
 limited-requires-2 : tie.Need-limited-requires-2
 limited-requires-2 c κs = search needs
 
-same-length : tie.Need-same-length
-same-length c = search needs
-
 returns-3 : tie.Need-returns-3
 unfolding refusal-by
-returns-3 c = λ root next l room. c .before .before .limited .ensures root next l room (rows-too rows root (no-values-refusal root (c .before .before .before .before .before .before .check .ensures root next l) (c .before .before .before .before .enum-told .given .1))) (found-as (c .before .before .before .before .before .before .check .ensures root next l) (c .before .before .before .before .enum-told .given .1))
-
-same-length-2 : tie.Need-same-length-2
-same-length-2 c = search needs
+returns-3 c = λ root l room. c .limited .ensures root l room (rows-too rows root (no-values-refusal root (c .before .before .before .before .rows-refusal .ensures root l) (c .before .before .enum-told .given .1))) (found-as (c .before .before .before .before .rows-refusal .ensures root l) (c .before .before .enum-told .given .1))
 
 returns-4 : tie.Need-returns-4
 unfolding refusal-by
-returns-4 c = λ root next l room. c .before .before .limited2 .ensures root next l room (no-rows-refusal root (c .before .before .before .before .before .before .check2 .ensures root next l) (c .before .before .before .before .enum-told2 .given .1)) (found-as (c .before .before .before .before .before .before .before .before .before .before .before .before .check .ensures root next l) (c .before .before .before .before .before .before .before .before .before .before .values .given .1))
+returns-4 c = λ root l room. c .limited2 .ensures root l room (no-rows-refusal root (c .before .before .before .before .rows-refusal2 .ensures root l) (c .before .before .enum-told2 .given .1)) (found-as (c .before .before .before .before .before .before .before .before .before .before .rows-refusal .ensures root l) (c .before .before .before .before .before .before .before .before .values .given .1))
 
 pub stages-spec : {M : Type 1} → statement M
 stages-spec =
     tie.close
     (tie.spec
-    check-requires
+    rows-refusal-requires
     enum-told
     limited-requires
     enum-known-values
     of-rows-requires
     returns
-    check-requires-2
+    rows-refusal-requires-2
     enum-known-shape
     returns-2
     enum-told-2
     limited-requires-2
-    same-length
     returns-3
-    same-length-2
     returns-4)

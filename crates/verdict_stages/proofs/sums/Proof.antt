@@ -5,11 +5,11 @@ use Rattle.verdict_stages.proofs.sums.Statement.{statement}
 use Rattle.verdict_stages.proofs.sums.Tie as tie
 use Rattle.verdict_stages.proofs.sums.Reads as reads
 use Rattle.verdict_stages.proofs.sums.Lts as lts
-use Rattle.rule_counts.proofs.counts.Reads as counts-reads
-use Rattle.rule_totals.proofs.total_cents.Reads as total-cents-reads
+use Rattle.rule_counts.proofs.counts_refusal.Reads as counts-refusal-reads
+use Rattle.rule_totals.proofs.total_refusal.Reads as total-refusal-reads
 
-total-cents-requires : tie.Need-total-cents-requires
-total-cents-requires c κs = search needs
+total-refusal-requires : tie.Need-total-refusal-requires
+total-refusal-requires c κs = search needs
 
 enum-known-total : tie.Need-enum-known-total
 enum-known-total c = search needs
@@ -17,8 +17,8 @@ enum-known-total c = search needs
 enum-known-total-2 : tie.Need-enum-known-total-2
 enum-known-total-2 c = search needs
 
-counts-requires : tie.Need-counts-requires
-counts-requires c κs = search needs
+counts-refusal-requires : tie.Need-counts-refusal-requires
+counts-refusal-requires c κs = search needs
 
 enum-known-found : tie.Need-enum-known-found
 enum-known-found c = search needs
@@ -27,22 +27,22 @@ enum-told : tie.Need-enum-told
 enum-told c = search needs
 
 returns : tie.Need-returns
-returns c = λ root next l o b p few v small. total-refused (c .before .before .before .total-cents .ensures root next l o p few (readable root v)) (c .before .total .given .1)
+returns c = λ root l o b p few v small. total-refused (c .before .before .before .total-refusal .ensures root l o p few (readable root v)) (c .before .total .given .1)
 
 returns-2 : tie.Need-returns-2
-returns-2 c = λ root next l o b p few v small. counts-refused (c .before .before .before .before .before .before .before .total-cents .ensures root next l o p few (readable root v)) (c .before .before .before .before .before .total2 .given .1) (c .before .before .before .counts .ensures root next l o b p few (the-total (c .before .before .before .before .before .before .before .total-cents .ensures root next l o p few (readable root v)) (c .before .before .before .before .before .total2 .given .1)) (readable root v)) (c .before .found .given .1)
+returns-2 c = λ root l o b p few v small. counts-refused (c .before .before .before .before .before .before .before .total-refusal .ensures root l o p few (readable root v)) (c .before .before .before .before .before .total2 .given .1) (c .before .before .before .counts-refusal .ensures root l o b p few small (the-total (c .before .before .before .before .before .before .before .total-refusal .ensures root l o p few (readable root v)) (c .before .before .before .before .before .total2 .given .1)) (readable root v)) (c .before .found .given .1)
 
 returns-3 : tie.Need-returns-3
-returns-3 c = λ root next l o b p few v small. all-passed (c .before .before .before .before .before .before .total-cents .ensures root next l o p few (readable root v)) (c .before .before .before .before .total2 .given .1) (c .before .before .counts .ensures root next l o b p few (the-total (c .before .before .before .before .before .before .total-cents .ensures root next l o p few (readable root v)) (c .before .before .before .before .total2 .given .1)) (readable root v)) (c .enum-told .given .1) o b p few small v
+returns-3 c = λ root l o b p few v small. all-passed (c .before .before .before .before .before .before .total-refusal .ensures root l o p few (readable root v)) (c .before .before .before .before .total2 .given .1) (c .before .before .counts-refusal .ensures root l o b p few small (the-total (c .before .before .before .before .before .before .total-refusal .ensures root l o p few (readable root v)) (c .before .before .before .before .total2 .given .1)) (readable root v)) (c .enum-told .given .1) o b p few small v
 
 pub sums-spec : {M : Type 1} → statement M
 sums-spec =
     tie.close
     (tie.spec
-    total-cents-requires
+    total-refusal-requires
     enum-known-total
     enum-known-total-2
-    counts-requires
+    counts-refusal-requires
     enum-known-found
     enum-told
     returns

@@ -4,29 +4,31 @@ use borrow.Author.Needs.{needs}
 use mathlib.Core.Path.{_≡_, refl, _∙_}
 use lib.ListN.{length}
 use Rattle.paper.specs.Form.{Element}
-use Rattle.paper.specs.Payments.{payments}
+use Rattle.paper.specs.Payments.{payments as all-payments}
 use Rattle.paper.specs.Accepted.{All}
+use Rattle.tree_routes.specs.Finds.{ChildrenOf}
 use Rattle.rule_limits.specs.Ordered.{Ordered}
 use Rattle.verdict_table.specs.Rows.{Fitting}
 use Rattle.verdict_table.proofs.Filling.{Filled, start, one-filled, all-filled}
 use Rattle.verdict_table.proofs.fill.Statement.{statement}
 use Rattle.verdict_table.proofs.fill.Tie as tie
-use Rattle.verdict_table.proofs.fill.Reads as reads
-use Rattle.verdict_table.proofs.fill.Lts as lts
-use Rattle.verdict_table.proofs.numbers_of.Reads as numbers-of-reads
-use Rattle.verdict_table.proofs.put.Reads as put-reads
-use Rattle.tree.proofs.number.Reads as number-reads
 
 abbrev Inv-loop : tie.InvT-loop
-Inv-loop s tree order many table₀ k₀ table k =
-    (length table ≡ length table₀) × ((root : Element) → length s ≤ 32768 → Ordered s tree order root → many ≡ length (payments root) → many ≤ 64
-    → All Fitting (payments root) → 1024 ≤ length table₀ → Filled Fitting s tree order table₀ root many k table)
+Inv-loop s tree order payments table₀ routes k₀ known₀ block₀ table k known block =
+    (length table ≡ length table₀) × ChildrenOf tree known block × ((root : Element) → length s ≤ 32768 → Ordered s tree order root
+    → payments ≡ length (all-payments root) → All Fitting (all-payments root) → 1024 ≤ length table₀ → Filled s tree order table₀ root payments k table)
 
 abbrev μ-loop : tie.MeasureT-loop
-μ-loop s tree order many table₀ k₀ table k = many - k
+μ-loop s tree order payments table₀ routes k₀ known₀ block₀ table k known block = payments - k
+
+routes-requires : tie.Need-routes-requires Inv-loop μ-loop
+routes-requires c κs = search needs
+
+by-name-requires : tie.Need-by-name-requires Inv-loop μ-loop
+by-name-requires c κs = search needs
 
 loop-holds : tie.Need-loop-holds Inv-loop μ-loop
-loop-holds c = (refl, λ root w o e few h long. start o e h)
+loop-holds c = (refl, c .by-name .ensures, λ root w o e h long. start o e h)
 
 same-length : tie.Need-same-length Inv-loop μ-loop
 same-length c = c .before .before .loop .inv .0
@@ -34,32 +36,11 @@ same-length c = c .before .before .loop .inv .0
 returns : tie.Need-returns Inv-loop μ-loop
 returns c = λ w root o e few h long. absurd (omega arith)
 
-mul-number : tie.Need-mul-number Inv-loop μ-loop
-mul-number c = search needs
+payment-requires : tie.Need-payment-requires Inv-loop μ-loop
+payment-requires c κs = search needs
 
-add-number : tie.Need-add-number Inv-loop μ-loop
-add-number c = search needs
-
-number-requires : tie.Need-number-requires Inv-loop μ-loop
-number-requires c κs = search needs
-
-mul-number-2 : tie.Need-mul-number-2 Inv-loop μ-loop
-mul-number-2 c = search needs
-
-add-number-2 : tie.Need-add-number-2 Inv-loop μ-loop
-add-number-2 c = search needs
-
-number-requires-2 : tie.Need-number-requires-2 Inv-loop μ-loop
-number-requires-2 c κs = search needs
-
-mul-number-3 : tie.Need-mul-number-3 Inv-loop μ-loop
-mul-number-3 c = search needs
-
-add-number-3 : tie.Need-add-number-3 Inv-loop μ-loop
-add-number-3 c = search needs
-
-number-requires-3 : tie.Need-number-requires-3 Inv-loop μ-loop
-number-requires-3 c κs = search needs
+by-name-again-requires : tie.Need-by-name-again-requires Inv-loop μ-loop
+by-name-again-requires c κs = search needs
 
 mul-put : tie.Need-mul-put Inv-loop μ-loop
 mul-put c = search needs
@@ -77,13 +58,23 @@ loop-less : tie.Need-loop-less Inv-loop μ-loop
 loop-less c = search needs
 
 loop-again : tie.Need-loop-again Inv-loop μ-loop
-loop-again c = (c .before .before .put .kept .0 ∙ c .before .before .before .before .before .before .before .before .before .before .loop .inv .0, λ root w o e few h long. one-filled (c .before .before .before .before .before .before .before .before .before .before .loop .inv .1 root w o e few h long) (c .before .before .before .before .before .before .before .before .before .loop-test .taken) (c .before .before .before .before .before .before .before .number .ensures) (c .before .before .before .before .before .before .number2 .ensures) (c .before .before .before .before .before .number3 .ensures) (c .before .before .before .numbers-of .ensures w) (c .before .before .put .ensures (omega (arith, c .before .before .before .before .before .before .before .before .before .before .loop .inv .0))))
+loop-again c =
+    let found = c .before .before .before .before .before .before .before .before in
+    let turn = found .before .before .before in
+    let children = c .before .before .before .before .before .before .before .by-name-again .ensures (turn .loop .inv .1) in (
+      c .before .before .put .kept .0 ∙ turn .loop .inv .0,
+      children,
+      λ root w o e h long.
+          one-filled (turn .loop .inv .2 root w o e h long) (found .before .before .loop-test .taken) (found .payment .ensures (found .before .if1 .left))
+          (λ p there f. c .before .before .before .numbers-of .ensures w (turn .before .before .routes .ensures) p there (children _ (p .block) (there .block-is)) f)
+          (c .before .before .put .ensures (omega (arith, long, turn .loop .inv .0, found .before .if1 .left))),
+    )
 
 same-length-2 : tie.Need-same-length-2 Inv-loop μ-loop
 same-length-2 c = c .before .loop .inv .0
 
 returns-2 : tie.Need-returns-2 Inv-loop μ-loop
-returns-2 c = λ w root o e few h long. all-filled (c .before .loop .inv .1 root w o e few h long) (c .loop-test .left)
+returns-2 c = λ w root o e few h long. all-filled (c .before .loop .inv .2 root w o e h long) (c .loop-test .left)
 
 pub fill-spec : {M : Type 1} → statement M
 fill-spec =
@@ -91,18 +82,13 @@ fill-spec =
     (tie.spec
     Inv-loop
     μ-loop
+    routes-requires
+    by-name-requires
     loop-holds
     same-length
     returns
-    mul-number
-    add-number
-    number-requires
-    mul-number-2
-    add-number-2
-    number-requires-2
-    mul-number-3
-    add-number-3
-    number-requires-3
+    payment-requires
+    by-name-again-requires
     mul-put
     numbers-of-requires
     put-requires

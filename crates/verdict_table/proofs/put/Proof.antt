@@ -8,8 +8,6 @@ use lib.Seq.{paste, paste-zero}
 use Rattle.verdict_table.proofs.Laws.{pasted, pasted-length, pasted-all}
 use Rattle.verdict_table.proofs.put.Statement.{statement}
 use Rattle.verdict_table.proofs.put.Tie as tie
-use Rattle.verdict_table.proofs.put.Reads as reads
-use Rattle.verdict_table.proofs.put.Lts as lts
 
 abbrev Inv-loop : tie.InvT-loop
 Inv-loop table₀ at numbers k₀ table k = (k ≤ 16) × (length numbers ≡ 16) × (at + 16 ≤ length table₀) × (table ≡ paste table₀ at numbers k)
@@ -42,7 +40,10 @@ mul-table-2 : tie.Need-mul-table-2 Inv-loop μ-loop
 mul-table-2 c = search needs
 
 slice-write-table : tie.Need-slice-write-table Inv-loop μ-loop
-slice-write-table c = omega (arith, pasted-length (now (c .before .before .before .before .args .table)) (c .before .before .before .before .args .at) (c .before .before .before .before .args .t3) (c .before .loop .k) (c .before .loop .inv .3) (omega arith) (omega arith))
+slice-write-table c =
+    let given = c .before .before .before .before .args in
+    let turn = c .before .loop in
+    omega (arith, pasted-length (now (given .table)) (given .at) (given .t3) (turn .k) (turn .inv .3) (omega arith) (omega arith))
 
 add-k : tie.Need-add-k Inv-loop μ-loop
 add-k c = search needs
@@ -51,13 +52,22 @@ loop-less : tie.Need-loop-less Inv-loop μ-loop
 loop-less c = search needs
 
 loop-again : tie.Need-loop-again Inv-loop μ-loop
-loop-again c = (search needs, search needs, search needs, pasted (now (c .before .before .before .before .args .table)) (c .before .before .before .before .args .at) (c .before .before .before .before .args .t3) (c .before .loop .k) (c .before .loop .inv .3) (omega arith) (omega arith))
+loop-again c =
+    let given = c .before .before .before .before .args in
+    let turn = c .before .loop in
+    (search needs, search needs, search needs, pasted (now (given .table)) (given .at) (given .t3) (turn .k) (turn .inv .3) (omega arith) (omega arith))
 
 same-length : tie.Need-same-length Inv-loop μ-loop
-same-length c = pasted-length (now (c .before .before .before .before .args .table)) (c .before .before .before .before .args .at) (c .before .before .before .before .args .t3) (c .before .loop .k) (c .before .loop .inv .3) (omega arith) (omega arith)
+same-length c =
+    let given = c .before .before .before .before .args in
+    let turn = c .before .loop in
+    pasted-length (now (given .table)) (given .at) (given .t3) (turn .k) (turn .inv .3) (omega arith) (omega arith)
 
 returns-3 : tie.Need-returns-3 Inv-loop μ-loop
-returns-3 c = λ h. pasted-all (now (c .before .before .before .before .args .table)) (c .before .before .before .before .args .at) (c .before .before .before .before .args .t3) (c .before .loop .k) (omega arith) (c .before .loop .inv .3)
+returns-3 c =
+    let given = c .before .before .before .before .args in
+    let turn = c .before .loop in
+    λ h. pasted-all (now (given .table)) (given .at) (given .t3) (turn .k) (omega arith) (turn .inv .3)
 
 pub put-spec : {M : Type 1} → statement M
 put-spec =

@@ -1,10 +1,7 @@
-use Rattle.verdict_table.proofs.Laws.{nothing, never-ends-first, held}
 use borrow.Author.Needs.{needs}
+use Rattle.verdict_table.proofs.Laws.{nothing, never-ends-first, held}
 use Rattle.verdict_table.proofs.span_of.Statement.{statement}
 use Rattle.verdict_table.proofs.span_of.Tie as tie
-use Rattle.verdict_table.proofs.span_of.Reads as reads
-use Rattle.verdict_table.proofs.span_of.Lts as lts
-use Rattle.tree.proofs.cell.Reads as cell-reads
 
 enum-known-found : tie.Need-enum-known-found
 enum-known-found c = search needs

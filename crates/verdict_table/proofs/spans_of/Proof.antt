@@ -1,14 +1,10 @@
-use Rattle.paper.specs.Bytes.{bytes}
-use Rattle.paper.specs.Fields.{plain, or-means, amount-field, remittance, fields, field-element}
-use Rattle.verdict_table.proofs.Laws.{kind-found}
 use borrow.Author.Needs.{needs}
+use mathlib.Core.Path.{refl}
+use Rattle.paper.specs.Fields.{plain, or-means, amount-field, remittance, fields, field-element}
+use Rattle.form_names.specs.Names.{is-row}
+use Rattle.verdict_table.proofs.Laws.{kind-found}
 use Rattle.verdict_table.proofs.spans_of.Statement.{statement}
 use Rattle.verdict_table.proofs.spans_of.Tie as tie
-use Rattle.verdict_table.proofs.spans_of.Reads as reads
-use Rattle.verdict_table.proofs.spans_of.Lts as lts
-use Rattle.tree_fields.proofs.field_at.Reads as field-at-reads
-use Rattle.tree_routes.proofs.inherited1.Reads as inherited1-reads
-use Rattle.verdict_table.proofs.span_of.Reads as span-of-reads
 
 field-at-requires : tie.Need-field-at-requires
 field-at-requires c κs = search needs
@@ -34,11 +30,14 @@ field-at-requires-4 c κs = search needs
 span-of-requires-4 : tie.Need-span-of-requires-4
 span-of-requires-4 c κs = search needs
 
-slice-aggregate-inherited1 : tie.Need-slice-aggregate-inherited1
-slice-aggregate-inherited1 c = search needs
+first-requires : tie.Need-first-requires
+first-requires c κs = search needs
 
-inherited1-requires : tie.Need-inherited1-requires
-inherited1-requires c κs = search needs
+first-requires-2 : tie.Need-first-requires-2
+first-requires-2 c κs = search needs
+
+either-requires : tie.Need-either-requires
+either-requires c κs = search needs
 
 span-of-requires-5 : tie.Need-span-of-requires-5
 span-of-requires-5 c κs = search needs
@@ -50,8 +49,18 @@ span-of-requires-6 : tie.Need-span-of-requires-6
 span-of-requires-6 c κs = search needs
 
 returns : tie.Need-returns
-unfolding field-element fields plain or-means amount-field remittance bytes
-returns c = λ p m n l b. record { id = c .before .before .before .before .before .before .before .before .before .before .before .span-of .ensures _ _ (c .before .before .before .before .before .before .before .before .before .before .before .before .field-at .ensures p m n l b); creditor = c .before .before .before .before .before .before .before .before .before .span-of2 .ensures _ _ (c .before .before .before .before .before .before .before .before .before .before .field-at2 .ensures p m n l b); name = c .before .before .before .before .before .before .before .span-of3 .ensures _ _ (c .before .before .before .before .before .before .before .before .field-at3 .ensures p m n l b); ultimate = c .before .before .before .before .before .span-of4 .ensures _ _ (c .before .before .before .before .before .before .field-at4 .ensures p m n l b); kind = c .before .before .span-of5 .ensures _ _ (kind-found p (c .before .before .before .inherited1 .ensures (p .own) (p .block) m n l b)); debtor = c .span-of6 .ensures _ _ (c .before .field-at5 .ensures p m n l b) }
+unfolding field-element fields plain or-means amount-field remittance is-row
+returns c = λ s p e o b.
+    let name = c .before .before .before .before .before .before .before .before in
+    let kind = c .before .before in
+    record {
+      id = name .before .before .before .before .span-of .ensures s _ (name .before .before .before .before .before .field-at .ensures s p e o b);
+      creditor = name .before .before .span-of2 .ensures s _ (name .before .before .before .field-at2 .ensures s p e o b);
+      name = name .span-of3 .ensures s _ (name .before .field-at3 .ensures s p e o b);
+      ultimate = c .before .before .before .before .before .before .span-of4 .ensures s _ (c .before .before .before .before .before .before .before .field-at4 .ensures s p e o b);
+      kind = kind .span-of5 .ensures s _ (kind-found p (kind .before .either .ensures s _ _ _ (c .before .before .before .before .before .first .ensures s _ (p .own) refl o) (c .before .before .before .before .first2 .ensures s _ (p .block) refl b)));
+      debtor = c .span-of6 .ensures s _ (c .before .field-at5 .ensures s p e o b);
+    }
 
 pub spans-of-spec : {M : Type 1} → statement M
 spans-of-spec =
@@ -65,8 +74,9 @@ spans-of-spec =
     span-of-requires-3
     field-at-requires-4
     span-of-requires-4
-    slice-aggregate-inherited1
-    inherited1-requires
+    first-requires
+    first-requires-2
+    either-requires
     span-of-requires-5
     field-at-requires-5
     span-of-requires-6

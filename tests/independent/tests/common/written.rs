@@ -1,11 +1,11 @@
-//! A case as the files of the crates `published` and `fields_run` have it: a letter for
+//! A case as the files of the crates `published` and `run_fields` have it: a letter for
 //! its kind, its parts, and a line feed; each part is its length in decimal, a `:`, its
 //! bytes and a `,`.
 
 use super::asked::{self, Asked};
 use super::pairs::{self, Pair};
 
-/// What the buffer of the program `fields_run` holds.
+/// What the buffer of the program `run_fields` holds.
 const MOST_BYTES: usize = 262_144;
 
 pub fn case(kind: &str, parts: &[&[u8]]) -> Vec<u8> {
@@ -17,10 +17,10 @@ fn part(bytes: &[u8]) -> Vec<u8> {
     [format!("{}:", bytes.len()).as_bytes(), bytes, b","].concat()
 }
 
-/// The cases of the crate `fields_run`, and what its program must print. A case is `F` with
+/// The cases of the crate `run_fields`, and what its program must print. A case is `F` with
 /// name, payment, first and last field and message, which has a line for each field; or `D`
 /// with name, first, second and list, which has a line for each of the two ways.
-pub fn fields_run() -> (Vec<u8>, String) {
+pub fn run_fields() -> (Vec<u8>, String) {
     let (asked, pairs) = (asked::all(), pairs::all());
     let all = asked.iter().map(of_asked).chain(pairs.iter().map(of_pair));
     let (cases, lines): (Vec<Vec<u8>>, Vec<String>) = all.unzip();

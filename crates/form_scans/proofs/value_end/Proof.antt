@@ -1,0 +1,20 @@
+use native.Mathlib.Omega.{arith}
+use Rattle.form_scans.proofs.Laws.{along-run, values-run}
+use borrow.Author.Needs.{needs}
+use Rattle.form_scans.proofs.value_end.Statement.{statement}
+use Rattle.form_scans.proofs.value_end.Tie as tie
+use Rattle.form_scans.proofs.value_end.Reads as reads
+use Rattle.form_scans.proofs.value_end.Lts as lts
+use Rattle.form_scans.proofs.run_end.Reads as run-end-reads
+
+returns : tie.Need-returns
+returns c = λ n h. let a = c .if1 .taken in absurd (omega (arith, a, h))
+
+run-end-requires : tie.Need-run-end-requires
+run-end-requires c κs = search needs
+
+returns-2 : tie.Need-returns-2
+returns-2 c = λ n h. record { along = along-run (c .run-end .ensures n) (omega arith) (omega arith); in-set = values-run (c .run-end .ensures n) (omega arith) (omega arith) }
+
+pub value-end-spec : {M : Type 1} → statement M
+value-end-spec = tie.close (tie.spec returns run-end-requires returns-2)

@@ -1,0 +1,13 @@
+use mathlib.Core.Path.{refl}
+use Rattle.paper.specs.Bytes.{bytes}
+use Rattle.paper.specs.Rows.{rows, leaf, group, group-under}
+use Rattle.rows.specs.Profile.{entry-of, place-numbers, places-under, places-in}
+use Rattle.rows.proofs.profile.places.Statement.{statement}
+use Rattle.rows.proofs.profile.places.Tie as tie
+
+returns : tie.Need-returns
+unfolding places-in places-under place-numbers entry-of rows leaf group group-under bytes
+returns c = refl
+
+pub places-spec : {M : Type 1} → statement M
+places-spec = tie.close (tie.spec returns)
