@@ -160,7 +160,8 @@ pub fn counts_refusal(
     total: u64,
 ) -> Finding
     ensures { λ r. ⌜ ((root : Element) → LaidAt (now (s .entry)) (now (tree .entry)) 0 root
-        → Ordered (now (s .entry)) (now (tree .entry)) (now (order .entry)) root → blocks ≡ length (all-blocks root) → payments ≡ length (all-payments root) → payments ≤ 64 → blocks ≤ 16
+        → Ordered (now (s .entry)) (now (tree .entry)) (now (order .entry)) root → blocks ≡ length (all-blocks root) → payments ≡ length (all-payments root)
+        → payments ≤ 64 → blocks ≤ 16
         → total ≡ total-of root → Readable root → refusal-found r ≡ counts-refusal root) ⌝ }
 {
     let header = in_header(s, tree, payments, total);
