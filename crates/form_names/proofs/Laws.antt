@@ -1,4 +1,4 @@
--- The number of a name, and when two names have one number; a line of the table compared with a name, byte by byte.
+-- The number of a name, and when two names have one number; the table compared with a name, byte by byte.
 use Prim.Native.Nat.{ℕ, zero, suc, _+_, _*_, _-_, _%_, _≤_, _<_}
 use mathlib.Core.List.{List, [], _∷_}
 use mathlib.Core.Bool.{Bool, true, false, _&&_, false≢true}
@@ -15,27 +15,31 @@ use Rattle.paper.specs.Rows.{Row, leaf, group, group-under, rows, name-in, name
 use Rattle.paper.proofs.Laws.{both-left, both-right, same-says, same-tests, same-differs}
 use Rattle.form_names.specs.Names.{number-in, name-number, is-row, slot-of, length-in, number-of, name-of, NamesAre}
 
--- A line compared with a name from a place on.
-pub begins-start : (line w : List ℕ) → same (take (length w) line) w ≡ same (take (length w - 0) (drop 0 line)) (drop 0 w)
-begins-start line w = simp unary-clauses refl
+-- What stands in the table from a place on, compared with a name from place k on.
+module _ (table : List ℕ) (from : ℕ) (w : List ℕ) where
+  abbrev pub left-from : ℕ → Bool
+  left-from k = same (take (length w - k) (drop (from + k) table)) (drop k w)
 
-module _ (line w : List ℕ) (k : ℕ) where
-  pub begins-goes : k < length w → k < length line → getD line k 0 ≡ getD w k 0
-      → same (take (length w - k) (drop k line)) (drop k w) ≡ same (take (length w - (k + 1)) (drop (k + 1) line)) (drop (k + 1) w)
-  unfolding same
-  begins-goes h l e =
-      let n : length w - k ≡ suc (length w - (k + 1)) = omega arith in
-      rw (n, drop-cons line k 0 l, drop-cons w k 0 h, add-one k, eq-eqb (getD line k 0) (getD w k 0) e)
+  pub stands-start : same (take (length w) (drop from table)) w ≡ left-from 0
+  stands-start = let a : from + 0 ≡ from = omega arith in rw a (simp unary-clauses refl)
 
-  pub begins-stops : k < length w → k < length line → (getD line k 0 ≡ getD w k 0 → ⊥) → same (take (length w - k) (drop k line)) (drop k w) ≡ false
-  unfolding same
-  begins-stops h l e =
-      let n : length w - k ≡ suc (length w - (k + 1)) = omega arith in
-      rw (n, drop-cons line k 0 l, drop-cons w k 0 h, ne-eqb (getD line k 0) (getD w k 0) e)
+  module _ (k : ℕ) where
+    pub stands-goes : k < length w → from + k < length table → getD table (from + k) 0 ≡ getD w k 0 → left-from k ≡ left-from (k + 1)
+    unfolding same
+    stands-goes h l e =
+        let n : length w - k ≡ suc (length w - (k + 1)) = omega arith in
+        let m : from + (k + 1) ≡ suc (from + k) = omega arith in
+        rw (n, m, drop-cons table (from + k) 0 l, drop-cons w k 0 h, add-one k, eq-eqb (getD table (from + k) 0) (getD w k 0) e)
 
-  pub begins-ends : length w ≤ k → same (take (length w - k) (drop k line)) (drop k w) ≡ true
-  unfolding same
-  begins-ends h = let n : length w - k ≡ 0 = omega arith in rw (n, drop-of-length-le w h)
+    pub stands-stops : k < length w → from + k < length table → (getD table (from + k) 0 ≡ getD w k 0 → ⊥) → left-from k ≡ false
+    unfolding same
+    stands-stops h l e =
+        let n : length w - k ≡ suc (length w - (k + 1)) = omega arith in
+        rw (n, drop-cons table (from + k) 0 l, drop-cons w k 0 h, ne-eqb (getD table (from + k) 0) (getD w k 0) e)
+
+    pub stands-ends : length w ≤ k → left-from k ≡ true
+    unfolding same
+    stands-ends h = let n : length w - k ≡ 0 = omega arith in rw (n, drop-of-length-le w h)
 
 -- The slot of a name of less than six bytes, and of one of more.
 module _ (w : List ℕ) {a b : ℕ} where
@@ -146,44 +150,41 @@ decided true c d e f = f
 decided false c d e f = absurd (false≢true e)
 
 -- What a test of the whole table says of it.
-unfoldable pub line-right : List ℕ → Bool
-line-right line = if leb 1 (length-in line) then eqb (name-number (name-of line)) (number-of line) else true
+unfoldable pub slot-right : List ℕ → ℕ → Bool
+slot-right table j = if leb 1 (length-in table j) then eqb (name-number (name-of table j)) (number-of table j) else true
 
-unfoldable pub row-there : List (List ℕ) → ℕ → Bool
-row-there table k = eqb (length-in (getD table (slot-of (name k)) [])) (length (name k)) && same (name-of (getD table (slot-of (name k)) [])) (name k)
+unfoldable pub row-there : List ℕ → ℕ → Bool
+row-there table k = eqb (length-in table (slot-of (name k))) (length (name k)) && same (name-of table (slot-of (name k))) (name k)
 
-unfoldable pub table-right : List (List ℕ) → Bool
-table-right table = each-number (λ j. leb 16 (length (getD table j []))) 128 0 && (each-number (λ j. line-right (getD table j [])) 128 0 && each-number (row-there table) 55 1)
+unfoldable pub table-right : List ℕ → Bool
+table-right table = leb 2304 (length table) && (each-number (slot-right table) 128 0 && each-number (row-there table) 55 1)
 
-pub names-are : (table : List (List ℕ)) → table-right table ≡ true → NamesAre table
-unfolding table-right row-there line-right
+pub names-are : (table : List ℕ) → table-right table ≡ true → NamesAre table
+unfolding table-right row-there slot-right
 names-are table t =
-    let rest = both-right (each-number (λ j. leb 16 (length (getD table j []))) 128 0) _ t in
+    let rest = both-right (leb 2304 (length table)) _ t in
     record {
-      long = λ j h.
-          leb-true 16 _ (each-says (λ j. leb 16 (length (getD table j []))) 128 0 (both-left _ (each-number (λ j. line-right (getD table j [])) 128 0 && each-number (row-there table) 55 1) t) j
-          (omega arith) (omega (arith, h)));
+      long = leb-true 2304 (length table) (both-left (leb 2304 (length table)) _ t);
       right = λ j h l.
-          let e = each-says (λ j. line-right (getD table j [])) 128 0 (both-left _ (each-number (row-there table) 55 1) rest) j (omega arith) (omega (arith, h)) in
-          eqb-true _ _
-          (decided (leb 1 (length-in (getD table j []))) (eqb (name-number (name-of (getD table j []))) (number-of (getD table j []))) true
-          (le-leb 1 (length-in (getD table j [])) l) e);
+          let e = each-says (slot-right table) 128 0 (both-left _ (each-number (row-there table) 55 1) rest) j (omega arith) (omega (arith, h)) in
+          let e′ : (if leb 1 (length-in table j) then eqb (name-number (name-of table j)) (number-of table j) else true) ≡ true = e in
+          eqb-true _ _ (decided (leb 1 (length-in table j)) _ true (le-leb 1 (length-in table j) l) e′);
       full = λ k r.
-          let e = row-says (row-there table) (both-right (each-number (λ j. line-right (getD table j [])) 128 0) _ rest) k r in
-          let e′ : (eqb (length-in (getD table (slot-of (name k)) [])) (length (name k)) && same (name-of (getD table (slot-of (name k)) [])) (name k)) ≡ true = e in
-          (eqb-true _ _ (both-left _ (same (name-of (getD table (slot-of (name k)) [])) (name k)) e′), same-says _ _ (both-right (eqb (length-in (getD table (slot-of (name k)) [])) (length (name k))) _ e′));
+          let e = row-says (row-there table) (both-right (each-number (slot-right table) 128 0) _ rest) k r in
+          let e′ : (eqb (length-in table (slot-of (name k))) (length (name k)) && same (name-of table (slot-of (name k))) (name k)) ≡ true = e in
+          (eqb-true _ _ (both-left _ (same (name-of table (slot-of (name k))) (name k)) e′), same-says _ _ (both-right (eqb (length-in table (slot-of (name k))) (length (name k))) _ e′));
     }
 
--- A name that no line of its slot is has number 0.
-module _ {table : List (List ℕ)} (n : NamesAre table) (w : List ℕ) where
-  pub not-there : (length-in (getD table (slot-of w) []) ≡ length w → name-of (getD table (slot-of w) []) ≡ w → ⊥) → 0 ≡ name-number w
+-- A name that does not stand in its slot has number 0.
+module _ {table : List ℕ} (n : NamesAre table) (w : List ℕ) where
+  pub not-there : (length-in table (slot-of w) ≡ length w → name-of table (slot-of w) ≡ w → ⊥) → 0 ≡ name-number w
   not-there h = go (name-number w) (numbered w)
     where
       go : (m : ℕ) → Numbered w m → 0 ≡ m
       go zero of-no-row = refl
       go m (of-row {k} r e) =
           let f = n .full m r in
-          absurd (h (ap (λ z. length-in (getD table (slot-of z) [])) e ∙ (f .0 ∙ ap length (sym e))) (ap (λ z. name-of (getD table (slot-of z) [])) e ∙ (f .1 ∙ sym e)))
+          absurd (h (ap (λ z. length-in table (slot-of z)) e ∙ (f .0 ∙ ap length (sym e))) (ap (λ z. name-of table (slot-of z)) e ∙ (f .1 ∙ sym e)))
 
 -- no row's name is longer than sixteen bytes, and none is empty
 names-fit : each-number (λ k. leb 1 (length (name k)) && leb (length (name k)) 16) 55 1 ≡ true
@@ -202,19 +203,19 @@ not-so-long w h = go (name-number w) (numbered w)
         let z = ap length e in
         absurd (h (omega (arith, l, z)) (omega (arith, u, z)))
 
--- What the line of a name's slot says of the name: it has another length, is another name, is this name.
-module _ {table : List (List ℕ)} (n : NamesAre table) (w : List ℕ) (j m : ℕ) (e : j ≡ slot-of w) (f : m ≡ length-in (getD table j [])) where
+-- What its slot says of a name: it has another length, is another name, is this name.
+module _ {table : List ℕ} (n : NamesAre table) (w : List ℕ) (j m : ℕ) (e : j ≡ slot-of w) (f : m ≡ length-in table j) where
   pub wrong-length : (m ≡ length w → ⊥) → 0 ≡ name-number w
-  wrong-length h = not-there n w (λ l _. h (f ∙ (ap (λ z. length-in (getD table z [])) e ∙ l)))
+  wrong-length h = not-there n w (λ l _. h (f ∙ (ap (length-in table) e ∙ l)))
 
-  pub wrong-name : m ≡ length w → false ≡ same (take (length w) (getD table j [])) w → 0 ≡ name-number w
+  pub wrong-name : m ≡ length w → false ≡ same (take (length w) (drop (18 * j) table)) w → 0 ≡ name-number w
   wrong-name l h =
       not-there n w
       (λ g x.
-      let p : take (length w) (getD table j []) ≡ w = ap (λ z. take (length w) (getD table z [])) e ∙ (ap (λ z. take z (getD table (slot-of w) [])) (sym g) ∙ x) in
+      let p : take (length w) (drop (18 * j) table) ≡ w = ap (λ z. take (length w) (drop (18 * z) table)) e ∙ (ap (λ z. take z (drop (18 * slot-of w) table)) (sym g) ∙ x) in
       false≢true (h ∙ (ap (λ z. same z w) p ∙ same-tests w)))
 
-  pub right-name : j < 128 → 1 ≤ length w → m ≡ length w → true ≡ same (take (length w) (getD table j [])) w → number-of (getD table j []) ≡ name-number w
+  pub right-name : j < 128 → 1 ≤ length w → m ≡ length w → true ≡ same (take (length w) (drop (18 * j) table)) w → number-of table j ≡ name-number w
   right-name b o l h =
-      let x : length-in (getD table j []) ≡ length w = sym f ∙ l in
-      sym (n .right j b (omega (arith, o, x))) ∙ ap name-number (ap (λ z. take z (getD table j [])) x ∙ same-says _ w (sym h))
+      let x : length-in table j ≡ length w = sym f ∙ l in
+      sym (n .right j b (omega (arith, o, x))) ∙ ap name-number (ap (λ z. take z (drop (18 * j) table)) x ∙ same-says _ w (sym h))

@@ -3,7 +3,7 @@ use Prim.Native.Nat.{ℕ, _+_, _*_, _-_, _%_, _≤_, _<_}
 use mathlib.Core.List.{List, [], _∷_}
 use mathlib.Core.Bool.{Bool, true, _&&_}
 use mathlib.Core.Path.{_≡_}
-use lib.ListN.{length, getD, take}
+use lib.ListN.{length, getD, take, drop}
 use lib.Dec.{leb, ltb}
 use Rattle.paper.specs.Bytes.{if_then_else_, same}
 use Rattle.paper.specs.Rows.{Row, rows, name}
@@ -23,19 +23,18 @@ is-row k = leb 1 k && leb k 55
 unfoldable pub slot-of : List ℕ → ℕ
 slot-of w = (5 * length w + 4 * getD w 0 0 + 49 * getD w (if ltb (length w) 6 then length w - 1 else 5) 0) % 128
 
--- A line of the table: what it says of a name's length and number, and the name.
-abbrev pub length-in : List ℕ → ℕ
-length-in line = getD line 17 0
+-- Of each slot the table has eighteen bytes: a name, filled up to sixteen bytes, its number and its length.
+abbrev pub number-of : List ℕ → (slot : ℕ) → ℕ
+number-of table j = getD table (18 * j + 16) 0
 
-abbrev pub number-of : List ℕ → ℕ
-number-of line = getD line 16 0
+abbrev pub length-in : List ℕ → (slot : ℕ) → ℕ
+length-in table j = getD table (18 * j + 17) 0
 
-abbrev pub name-of : List ℕ → List ℕ
-name-of line = take (length-in line) line
+abbrev pub name-of : List ℕ → (slot : ℕ) → List ℕ
+name-of table j = take (length-in table j) (drop (18 * j) table)
 
 -- The table holds in each slot a name with its number, or nothing; and every row's name in its slot.
-pub record NamesAre (table : List (List ℕ)) : Type 0 where
-  pub long : (j : ℕ) → j < 128 → 16 ≤ length (getD table j [])
-  pub right : (j : ℕ) → j < 128 → 1 ≤ length-in (getD table j []) → name-number (name-of (getD table j [])) ≡ number-of (getD table j [])
-  pub full : (k : ℕ) → is-row k ≡ true
-      → (length-in (getD table (slot-of (name k)) []) ≡ length (name k)) × (name-of (getD table (slot-of (name k)) []) ≡ name k)
+pub record NamesAre (table : List ℕ) : Type 0 where
+  pub long : 2304 ≤ length table
+  pub right : (j : ℕ) → j < 128 → 1 ≤ length-in table j → name-number (name-of table j) ≡ number-of table j
+  pub full : (k : ℕ) → is-row k ≡ true → (length-in table (slot-of (name k)) ≡ length (name k)) × (name-of table (slot-of (name k)) ≡ name k)

@@ -7,8 +7,8 @@ use Rattle.form_names.proofs.number_of.Statement.{statement}
 use Rattle.form_names.proofs.number_of.Tie as tie
 use Rattle.form_names.proofs.number_of.Reads as reads
 use Rattle.form_names.proofs.number_of.Lts as lts
-use Rattle.form_names.proofs.begins.Reads as begins-reads
 use Rattle.form_names.proofs.slot.Reads as slot-reads
+use Rattle.form_names.proofs.stands.Reads as stands-reads
 use Rattle.form_names.proofs.wide.Reads as wide-reads
 
 returns : tie.Need-returns
@@ -20,14 +20,14 @@ returns-2 c n = not-so-long (c .before .before .before .args .w .now) (λ l u. l
 slot-requires : tie.Need-slot-requires
 slot-requires c κs = search needs
 
-mul-wide : tie.Need-mul-wide
-mul-wide c = search needs
+mul-from : tie.Need-mul-from
+mul-from c = search needs
 
-index-1-wide : tie.Need-index-1-wide
-index-1-wide c = search needs
+add-wide : tie.Need-add-wide
+add-wide c = search needs
 
-index-2-wide : tie.Need-index-2-wide
-index-2-wide c = search needs
+element-copy-out-wide : tie.Need-element-copy-out-wide
+element-copy-out-wide c = search needs
 
 wide-requires : tie.Need-wide-requires
 wide-requires c κs = search needs
@@ -35,32 +35,26 @@ wide-requires c κs = search needs
 returns-3 : tie.Need-returns-3
 returns-3 c n = wrong-length n (c .before .before .before .before .before .before .before .args .w .now) _ _ (c .before .before .before .slot .ensures .0) (c .before .wide .ensures .0) (c .if3 .taken)
 
-mul-begins : tie.Need-mul-begins
-mul-begins c = search needs
-
-index-1-begins : tie.Need-index-1-begins
-index-1-begins c = search needs
-
-begins-requires : tie.Need-begins-requires
-begins-requires c κs = search needs
+stands-requires : tie.Need-stands-requires
+stands-requires c κs = search needs
 
 returns-4 : tie.Need-returns-4
-returns-4 c n = wrong-name n (c .before .before .before .before .before .before .before .before .before .before .args .w .now) _ _ (c .before .before .before .before .before .before .slot .ensures .0) (c .before .before .before .before .wide .ensures .0) (c .before .before .before .if3 .left) (sym (not-true _ (c .if4 .taken)) ∙ c .before .begins .ensures (n .long _ (c .before .before .before .before .before .before .slot .ensures .1)))
+returns-4 c n = wrong-name n (c .before .before .before .before .before .before .before .before .before .args .w .now) _ _ (c .before .before .before .before .before .slot .ensures .0) (c .before .before .before .wide .ensures .0) (c .before .before .if3 .left) (sym (not-true _ (c .if4 .taken)) ∙ c .before .stands .ensures (n .long))
 
-mul-wide-2 : tie.Need-mul-wide-2
-mul-wide-2 c = search needs
+add-wide-2 : tie.Need-add-wide-2
+add-wide-2 c = search needs
 
-index-1-wide-2 : tie.Need-index-1-wide-2
-index-1-wide-2 c = search needs
-
-index-2-wide-2 : tie.Need-index-2-wide-2
-index-2-wide-2 c = search needs
+element-copy-out-wide-2 : tie.Need-element-copy-out-wide-2
+element-copy-out-wide-2 c = search needs
 
 wide-requires-2 : tie.Need-wide-requires-2
 wide-requires-2 c κs = search needs
 
 returns-5 : tie.Need-returns-5
-returns-5 c n = c .wide2 .ensures .0 ∙ right-name n (c .before .before .before .before .before .before .before .before .before .before .before .before .args .w .now) _ _ (c .before .before .before .before .before .before .before .before .slot .ensures .0) (c .before .before .before .before .before .before .wide .ensures .0) (c .before .before .before .before .before .before .before .before .slot .ensures .1) (let h = c .before .before .before .before .before .before .before .before .before .before .if1 .left in omega (arith, h)) (c .before .before .before .before .before .if3 .left) (sym (not-false _ (c .before .before .if4 .left)) ∙ c .before .before .before .begins .ensures (n .long _ (c .before .before .before .before .before .before .before .before .slot .ensures .1)))
+returns-5 c n =
+    c .wide2 .ensures .0
+    ∙ right-name n (c .before .before .before .before .before .before .before .before .before .before .before .args .w .now) _ _ (c .before .before .before .before .before .before .before .slot .ensures .0) (c .before .before .before .before .before .wide .ensures .0) (c .before .before .before .before .before .before .before .slot .ensures .1) (let h = c .before .before .before .before .before .before .before .before .before .if1 .left in omega (arith, h)) (c .before .before .before .before .if3 .left)
+    (sym (not-false _ (c .before .before .if4 .left)) ∙ c .before .before .before .stands .ensures (n .long))
 
 pub number-of-spec : {M : Type 1} → statement M
 number-of-spec =
@@ -69,17 +63,14 @@ number-of-spec =
     returns
     returns-2
     slot-requires
-    mul-wide
-    index-1-wide
-    index-2-wide
+    mul-from
+    add-wide
+    element-copy-out-wide
     wide-requires
     returns-3
-    mul-begins
-    index-1-begins
-    begins-requires
+    stands-requires
     returns-4
-    mul-wide-2
-    index-1-wide-2
-    index-2-wide-2
+    add-wide-2
+    element-copy-out-wide-2
     wide-requires-2
     returns-5)
