@@ -1,4 +1,4 @@
 -- Laws that belong to no one function.
 pub mod Agreement
-pub mod Stands
+pub mod FromRoot
 pub mod Walking

@@ -1,3 +1,2 @@
--- A profile's numbers, and what the walk answers.
-pub mod Profile
+-- What the walk answers.
 pub mod Walk

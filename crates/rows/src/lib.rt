@@ -1,7 +1,5 @@
 // The walk of refusals 3 and 4 over the laid-out tree of a message, and the same walk with the judgement of 6 to 8 at the leaves. The rows are a profile in
 // numbers (crates/rows_places/specs/Numbers.antt); every function but `rows_refusal` is for any such profile.
-mod profile;
-
 use paper::Fault;
 use paper::Finding;
 use rows_places::Places;
@@ -106,7 +104,7 @@ fn children(
 pub fn rows_refusal(s: &[u8], tree: &Tree, judging: bool) -> Finding
     ensures { λ r. ⌜ WalkPromise (now (s .entry)) (now (tree .entry)) judging r ⌝ }
 {
-    let rows = profile::rows();
-    let places = profile::places();
+    let rows = rows_profile::rows();
+    let places = rows_profile::places();
     element(s, tree, &rows, &places, judging, 0, 0, 0)
 }

@@ -1,5 +1,5 @@
 use borrow.Author.Needs.{needs}
-use Rattle.rows.proofs.Stands.{whole-walk}
+use Rattle.rows.proofs.FromRoot.{whole-walk}
 use Rattle.rows.proofs.rows_refusal.Statement.{statement}
 use Rattle.rows.proofs.rows_refusal.Tie as tie
 

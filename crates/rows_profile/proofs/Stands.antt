@@ -1,4 +1,4 @@
--- Numbers stand for a profile where a computed test says so; and what the walk from the root then promises.
+-- Numbers stand for a profile where a computed test says so.
 use Prim.Native.Nat.{ℕ, zero, suc, _+_, _-_, _<_, _≤_}
 use mathlib.Core.List.{List, [], _∷_, map}
 use mathlib.Core.Bool.{Bool, true, false}
@@ -8,15 +8,10 @@ use lib.Dec.{eqb, ltb}
 use borrow.Author.Tests.{eqb-true, eqb-false, ltb-true, ltb-false}
 use Rattle.paper.specs.Bytes.{bytes, same}
 use Rattle.paper.specs.Rows.{Row, row-of, rows as the-rows, name-in, name, leaf, group, group-under}
-use Rattle.paper.specs.Form.{Element}
-use Rattle.paper.specs.Refusals.{walk, rows-refusal, values-refusal}
-use Rattle.paper.specs.declared.Finding.{Finding}
 use Rattle.form_names.specs.Names.{number-in, name-number, is-row}
 use Rattle.rows_places.specs.Numbers.{number-at, of-entry, of-place, of-kind, place-at, places-from, places-between, places-of, holds-at, row-at, StandsFor, Stands}
 use Rattle.rows_places.proofs.Places.{no-line}
-use Rattle.rows_contents.specs.Judged.{judgement}
-use Rattle.rows.specs.Profile.{entry-of, place-numbers, places-under, places-in, entries, entries-of}
-use Rattle.rows.specs.Walk.{refusal-by, Walks, WalkPromise}
+use Rattle.rows_profile.specs.Profile.{entry-of, place-numbers, places-under, places-in, entries, entries-of}
 
 -- two functions that agree below n, by one equation of lists
 unfoldable pub upto : ℕ → List ℕ
@@ -88,21 +83,10 @@ tested : Tested the-rows (entries-of the-rows) (places-in the-rows)
 unfolding upto Agree number-at of-kind place-at places-from places-between places-of holds-at row-at row-of the-rows leaf group group-under bytes same name-in name number-in name-number is-row entry-of place-numbers places-under places-in entries entries-of
 tested = record { root-agrees = refl; first-agree = refl; second-agree = refl }
 
-rows-stand : Stands the-rows (entries-of the-rows) (places-in the-rows)
+pub rows-stand : Stands the-rows (entries-of the-rows) (places-in the-rows)
 rows-stand = by-test the-rows (entries-of the-rows) (places-in the-rows) tested
 
--- the walk over the rows from the root
-from-root : (judging : Bool) (root : Element) → walk the-rows (judgement judging) root 0 (row-of the-rows 0 1) ≡ refusal-by judging the-rows root
-unfolding judgement refusal-by rows-refusal values-refusal
-from-root true root = refl
-from-root false root = refl
-
-not-an-amount : {A : Type 0} → of-entry (entries-of the-rows) 0 0 ≡ 42 → A
+-- the first entry is row 1
+pub first-entry : of-entry (entries-of the-rows) 0 0 ≡ 1
 unfolding number-at entries-of entries the-rows leaf group group-under
-not-an-amount e = absurd (omega (arith, e))
-
-pub whole-walk : (s tree : List ℕ) {rows places : List (List ℕ)} (judging : Bool) (f : Finding) → rows ≡ entries-of the-rows → places ≡ places-in the-rows
-    → Walks s tree rows places judging 0 0 0 f → WalkPromise s tree judging f
-whole-walk s tree judging f p q w root l =
-    let walks : Walks s tree (entries-of the-rows) (places-in the-rows) judging 0 0 0 f = rw (p, q) at w in
-    walks the-rows rows-stand root (l .next) (l .laid) not-an-amount ∙ ap (λ (r : Row). walk the-rows (judgement judging) root 0 r) (rows-stand .root-is) ∙ from-root judging root
+first-entry = refl

@@ -2,9 +2,9 @@ use mathlib.Core.Path.{refl}
 use Rattle.paper.specs.Bytes.{bytes, same}
 use Rattle.paper.specs.Rows.{rows, leaf, group, group-under}
 use Rattle.form_names.specs.Names.{number-in, name-number}
-use Rattle.rows.specs.Profile.{entries, entries-of}
-use Rattle.rows.proofs.profile.rows.Statement.{statement}
-use Rattle.rows.proofs.profile.rows.Tie as tie
+use Rattle.rows_profile.specs.Profile.{entries, entries-of}
+use Rattle.rows_profile.proofs.rows.Statement.{statement}
+use Rattle.rows_profile.proofs.rows.Tie as tie
 
 returns : tie.Need-returns
 unfolding entries-of entries name-number number-in same rows leaf group group-under bytes

@@ -3,7 +3,7 @@ use rows_places::Places;
 use rows_places::Rows;
 ghost use mathlib.Core.Path.{_≡_};
 ghost use Rattle.paper.specs.Rows.{rows};
-ghost use Rattle.rows.specs.Profile.{entries-of, places-in};
+ghost use Rattle.rows_profile.specs.Profile.{entries-of, places-in};
 
 // For each entry: its row and the row that it is under; its name's number; its longest length; its places from and to.
 const ROWS: Rows = [
