@@ -25,16 +25,12 @@ use Rattle.form.specs.declared.Read.the-variants as read
 use Rattle.form.specs.declared.Held.{Held}
 use Rattle.form.specs.declared.Held.the-variants as held
 use Rattle.paper_grammar.proofs.Complete.{among-stays}
-use Rattle.form_scans.proofs.Laws.{from-next, from-stuck, from-short, want-step, want-stuck, want-append, text-step, reached, halts, first, via, giving, chain}
+use Rattle.form_scans.proofs.Laws.{from-next, from-stuck, from-short, want-step, want-stuck, want-append, text-step, no-to, reached, halts, first, via, giving, chain}
 use Rattle.form.proofs.Numbering.{kept-same, kept-on, Agree, agree-same, agree-on, kept-agree, narrow, numbered-stays}
 
-unfoldable went-on : Held → ℕ
-went-on (held.To close next known) = 0
-went-on (held.StopsAt n) = 1
-
 no-held : {n c m k : ℕ} → held.StopsAt n ≡ held.To c m k → ⊥
-unfolding went-on
-no-held e = let z : _≡_ {A = ℕ} 1 0 = ap went-on e in omega (arith, z)
+unfolding held-scan
+no-held e = no-to (ap held-scan e)
 
 unfoldable known-of : Held → ℕ
 known-of (held.To close next known) = known

@@ -20,7 +20,7 @@ use Rattle.tree.specs.Laid.{between, Numbers}
 use Rattle.form_scans.specs.Scans.{from, Scanned, stops, Word, end-of, Tag, Opened, Name}
 use Rattle.form_scans.specs.declared.Scan.{Scan}
 use Rattle.form_scans.specs.declared.Scan.the-variants.{To, StopsAt}
-use Rattle.form_scans.proofs.Laws.{from-next, from-stuck, from-short, reached, halts, first, via, giving, giving-at, chain}
+use Rattle.form_scans.proofs.Laws.{from-next, from-stuck, from-short, no-to, reached, halts, first, via, giving, giving-at, chain}
 use Rattle.form.specs.Reads.{Roomy, Kept, PutDown, Numbered, numbered-text, numbered-elements, Holds, Whole, held-scan, held-next, close-of, ContentRead, Placed, read-scan, read-next, ElementRead, InsideRead}
 use Rattle.form.specs.declared.Read.{Read}
 use Rattle.form.specs.declared.Read.the-variants as read
@@ -43,13 +43,9 @@ module _ (b : ℕ) {r : ℕ} (e : r ≡ rank b) where
   not-in-name l = name-from b ∙ lt-leb 5 (rank b) (omega (arith, e, l))
 
 -- an answer that stops says nothing of numbers
-unfoldable went-on : Read → ℕ
-went-on (read.To at next) = 0
-went-on (read.StopsAt n) = 1
-
-pub no-read : {n a m : ℕ} → read.StopsAt n ≡ read.To a m → ⊥
-unfolding went-on
-no-read e = let z : _≡_ {A = ℕ} 1 0 = ap went-on e in omega (arith, z)
+no-read : {n a m : ℕ} → read.StopsAt n ≡ read.To a m → ⊥
+unfolding read-scan
+no-read e = no-to (ap read-scan e)
 
 unfoldable at-of : Read → ℕ
 at-of (read.To at next) = at
@@ -153,7 +149,7 @@ as-held {s} {before} {after} {start} {i} {left} e c = subst (λ z. ContentRead s
 whole-kept : {before tree : List ℕ} (i : ℕ) → Kept before tree (i + 1) → Kept before tree i
 whole-kept i k = record { length-kept = k .length-kept; kept = λ j l. k .kept j (omega (arith, l)) }
 
-pub finished : {s tree after : List ℕ} (i next : ℕ) (t : Element) → ((n : ℕ) → Agree tree after (i + 1) n) → Numbers s after i (head-of t) next → Holds s tree t (i + 1) next
+finished : {s tree after : List ℕ} (i next : ℕ) (t : Element) → ((n : ℕ) → Agree tree after (i + 1) n) → Numbers s after i (head-of t) next → Holds s tree t (i + 1) next
     → Numbered s after t i next
 unfolding head-of Holds
 finished i next (holding-text h w) a n e = numbered-text n e
@@ -168,45 +164,49 @@ module _ (s before tree : List ℕ) (lt e start i left n : ℕ) where
     goes = λ a k f. absurd (no-read f);
   }
 
+-- An element of a name and a depth, whose first child has number i + 1, up to behind its end tag.
+module _ (i : ℕ) {s before tree : List ℕ} {start left close next known : ℕ} (c : ContentRead s before tree start (i + 1) left (held.To close next known))
+    {name : List ℕ} {r : Scan} (w : Word s close (end-tag name) r) {depth lt : ℕ} (o : Tag name depth lt start) where
+  pub closing : depth + left ≡ 12 → Scanned s start (blank (o .tag) []) (λ k (a : Whole s tree (o .tag) close (i + 1) next). k (a .element)) r
+  unfolding held-scan held-next close-of
+  closing d =
+      let w′ : Word s close (end-tag (o .tag .name)) r = subst (λ n. Word s close (end-tag n) r) (sym (o .its-name)) w in
+      chain (c .reads (o .tag) (let j = o .its-depth in omega (arith, d, j))) refl (λ a. giving (λ _. a) (λ k _. refl) (via (λ k. k (a .element)) (w′ .reads)))
+
+  -- It has its numbers, once they are put down.
+  pub numbered-then : {after : List ℕ} {number : ℕ} → PutDown tree after i lt number start close next known → number ≡ name-number name → start ≤ length s
+      → 7 * i ≤ start + 41 → (a : Whole s tree (o .tag) close (i + 1) next) → Roomy s after → Numbered s after (a .element) i next
+  unfolding closed
+  numbered-then p number-is sl few a roomy =
+      let k = put-kept p .length-kept in
+      let rl = roomy .long in
+      let sh = roomy .short in
+      let (g₁, g₂, g₃, g₄, g₅) = c .goes close next known refl in
+      let ol = o .long in
+      let nb = number-below name in
+      finished i next (a .element) (put-agrees p)
+      (put-there p s (head-of (a .element)) (omega (arith, k, rl)) (omega (arith, g₃, g₄, few, sh)) (omega (arith, g₁)) (omega (arith, ol, sl, sh))
+      (omega (arith, sl, sh)) (omega (arith, g₃, sh)) (omega (arith, nb, number-is)) (sym (ap (λ h. h .at) (a .its-head) ∙ o .its-at))
+      (number-is ∙ ap name-number (sym (ap (λ h. h .name) (a .its-head) ∙ o .its-name))) (sym (ap (λ h. h .start) (a .its-head) ∙ o .its-start))
+      (sym (ap (λ h. h .close) (a .its-head))) g₅)
+      (a .holds (record { short = sh; long = omega (arith, k, rl) }))
+
 module _ (s before tree : List ℕ) (lt e start i left close next known : ℕ) (c : ContentRead s before tree start (i + 1) (left - 1) (held.To close next known)) (one : 1 ≤ left)
     {r : Scan} (w : Word s close (end-tag (between (lt + 1) e s)) r) where
-  closing : (depth : ℕ) → depth + left ≡ 13 → (o : Tag (between (lt + 1) e s) depth lt start)
-      → Scanned s start (blank (o .tag) []) (λ k (a : Whole s tree (o .tag) close (i + 1) next). k (a .element)) r
-  unfolding held-scan held-next close-of
-  closing depth d o =
-      let w′ : Word s close (end-tag (o .tag .name)) r = subst (λ n. Word s close (end-tag n) r) (sym (o .its-name)) w in
-      chain (c .reads (o .tag) (let j = o .its-depth in omega (arith, d, j, one))) refl (λ a. giving (λ _. a) (λ k _. refl) (via (λ k. k (a .element)) (w′ .reads)))
-
   pub end-stops : {n : ℕ} → r ≡ StopsAt n → InsideRead s before tree lt e start i left (read.StopsAt n)
   unfolding read-scan
-  end-stops f = record { kept = whole-kept i (c .kept); reads = λ depth d o. halts (closing depth d o) f; goes = λ a k g. absurd (no-read g) }
+  end-stops f = record { kept = whole-kept i (c .kept); reads = λ depth d o. halts (closing i c w o (omega (arith, d, one))) f; goes = λ a k g. absurd (no-read g) }
 
   module _ (after : List ℕ) (number q : ℕ) (f : r ≡ To q) (p : PutDown tree after i lt number start close next known) (few : 7 * i + 4 * left ≤ lt + 48)
       (le : lt + 1 < e) (es : e < start) (sl : start ≤ length s) (number-is : number ≡ name-number (between (lt + 1) e s)) where
     placed : (depth : ℕ) (o : Tag (between (lt + 1) e s) depth lt start) → Whole s tree (o .tag) close (i + 1) next → Placed s after i next
-    unfolding closed
-    placed depth o a = record {
-      element = a .element;
-      numbered = λ roomy.
-          let k = put-kept p .length-kept in
-          let rl = roomy .long in
-          let sh = roomy .short in
-          let (g₁, g₂, g₃, g₄, g₅) = c .goes close next known refl in
-          let rs : Roomy s tree = record { short = sh; long = omega (arith, k, rl) } in
-          let nb = number-below (between (lt + 1) e s) in
-          finished i next (a .element) (put-agrees p)
-          (put-there p s (head-of (a .element)) (omega (arith, k, rl)) (omega (arith, g₃, g₄, few, sh, one, le, es)) (omega (arith, g₁)) (omega (arith, le, es, sl, sh))
-          (omega (arith, sl, sh)) (omega (arith, g₃, sh)) (omega (arith, nb, number-is)) (sym (ap (λ h. h .at) (a .its-head) ∙ o .its-at))
-          (number-is ∙ ap name-number (sym (ap (λ h. h .name) (a .its-head) ∙ o .its-name))) (sym (ap (λ h. h .start) (a .its-head) ∙ o .its-start))
-          (sym (ap (λ h. h .close) (a .its-head))) g₅)
-          (a .holds rs);
-    }
+    placed depth o a = record { element = a .element; numbered = numbered-then i c w o p number-is sl (omega (arith, few, one, le, es)) a }
 
     pub inside-read : InsideRead s before after lt e start i left (read.To q next)
     unfolding read-scan read-next placed
     inside-read = record {
       kept = kept-on (whole-kept i (c .kept)) (put-kept p) (omega arith);
-      reads = λ depth d o. subst (λ z. Scanned s start (blank (o .tag) []) (λ k (a : Placed s after i next). k (a .element)) z) f (giving (placed depth o) (λ k _. refl) (closing depth d o));
+      reads = λ depth d o. subst (λ z. Scanned s start (blank (o .tag) []) (λ k (a : Placed s after i next). k (a .element)) z) f (giving (placed depth o) (λ k _. refl) (closing i c w o (omega (arith, d, one))));
       goes = λ x y z.
           let (z₁, z₂) = read-parts z in
           let (g₁, g₂, g₃, g₄, g₅) = c .goes close next known refl in

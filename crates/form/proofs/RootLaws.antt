@@ -26,8 +26,8 @@ use Rattle.paper_grammar.proofs.Decides.{stop-is-refusal}
 use Rattle.paper_grammar.proofs.Sound.{sound}
 use Rattle.form_scans.proofs.Laws.{from-stuck, want-step, want-stuck, reached, halted, halts, first, via, giving, chain}
 use Rattle.form.proofs.ContentLaws.{alike-short, alike-stuck, alike-next}
-use Rattle.form.proofs.ElementLaws.{finished}
-use Rattle.form.proofs.Numbering.{put-kept, put-agrees, put-there, laid}
+use Rattle.form.proofs.ElementLaws.{closing, numbered-then}
+use Rattle.form.proofs.Numbering.{laid}
 use Rattle.paper_grammar.proofs.InPlace.{in-place}
 
 -- the declaration, which begins with `<?`
@@ -155,39 +155,17 @@ module _ (s before tree : List ℕ) (at start : ℕ) where
   in-root-stops c o = halts (c .reads (o .tag) (let j = o .its-depth in omega (arith, j))) refl
 
   module _ (close next known : ℕ) (c : ContentRead s before tree start 1 11 (held.To close next known)) {r : Scan} (w : Word s close (end-tag (bytes "Document")) r) where
-    root-closing : (o : Tag (bytes "Document") 1 at start) → Scanned s start (blank (o .tag) []) (λ k (a : Whole s tree (o .tag) close 1 next). k (a .element)) r
-    unfolding held-scan held-next close-of
-    root-closing o =
-        let w′ : Word s close (end-tag (o .tag .name)) r = subst (λ n. Word s close (end-tag n) r) (sym (o .its-name)) w in
-        chain (c .reads (o .tag) (let j = o .its-depth in omega (arith, j))) refl (λ a. giving (λ _. a) (λ k _. refl) (via (λ k. k (a .element)) (w′ .reads)))
-
     pub root-end-stops : {n : ℕ} → r ≡ StopsAt n → InRoot s tree at start (StopsAt n)
-    root-end-stops f o = halts (root-closing o) f
+    root-end-stops f o = halts (closing 0 c w o refl) f
 
-    module _ (after : List ℕ) (q : ℕ) (f : r ≡ To q) (p : PutDown tree after 0 at 1 start close next known) (sl : start ≤ length s) (st : start ≡ at + 65) where
+    module _ (after : List ℕ) (q : ℕ) (f : r ≡ To q) (p : PutDown tree after 0 at 1 start close next known) (sl : start ≤ length s) where
       root-placed : (o : Tag (bytes "Document") 1 at start) → Whole s tree (o .tag) close 1 next → Root s after
-      unfolding closed
-      root-placed o a = record {
-        element = a .element;
-        next = next;
-        numbered = λ roomy.
-            let k = put-kept p .length-kept in
-            let rl = roomy .long in
-            let sh = roomy .short in
-            let (g₁, g₂, g₃, g₄, g₅) = c .goes close next known refl in
-            let rs : Roomy s tree = record { short = sh; long = omega (arith, k, rl) } in
-            finished 0 next (a .element) (put-agrees p)
-            (put-there p s (head-of (a .element)) (omega (arith, k, rl)) (omega (arith, g₃, g₄, sh)) (omega (arith, g₁)) (omega (arith, sl, sh, st)) (omega (arith, sl, sh))
-            (omega (arith, g₃, sh)) (omega arith) (sym (ap (λ h. h .at) (a .its-head) ∙ o .its-at))
-            (root-number ∙ ap name-number (sym (ap (λ h. h .name) (a .its-head) ∙ o .its-name))) (sym (ap (λ h. h .start) (a .its-head) ∙ o .its-start))
-            (sym (ap (λ h. h .close) (a .its-head))) g₅)
-            (a .holds rs);
-      }
+      root-placed o a = record { element = a .element; next = next; numbered = numbered-then 0 c w o p root-number sl (omega arith) a }
 
       pub in-root-read : InRoot s after at start (To q)
       unfolding root-placed
       in-root-read o =
-          subst (λ z. Scanned s start (blank (o .tag) []) (λ k (a : Root s after). k (a .element)) z) f (giving (root-placed o) (λ k _. refl) (root-closing o))
+          subst (λ z. Scanned s start (blank (o .tag) []) (λ k (a : Root s after). k (a .element)) z) f (giving (root-placed o) (λ k _. refl) (closing 0 c w o refl))
 
 -- the message up to behind the root
 pub prologue-stops : {s tree : List ℕ} {r : Scan} {n : ℕ} → Prologue s r → r ≡ StopsAt n → RootRead s tree 0 opening (StopsAt n)

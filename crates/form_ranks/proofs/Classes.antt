@@ -2,12 +2,13 @@
 use Prim.Native.Nat.{ℕ, zero, suc, _<_, _≤_}
 use Prim.Native.Char.{Char, code}
 use Prim.Native.String.{String, [] as []ˢ, _∷_ as _∷ˢ_}
-use mathlib.Core.Bool.{Bool, true, false, _&&_, not, and-false}
+use mathlib.Core.Bool.{Bool, true, false, _&&_, not, and-false, and-true}
 use mathlib.Core.Path.{_≡_, refl, sym, subst}
 use native.Mathlib.Omega.{arith}
 use lib.Dec.{eqb, leb}
 use borrow.Author.Tests.{leb-true, leb-false, lt-leb, eqb-true, eqb-false, ne-eqb}
 use Rattle.paper.specs.Bytes.{if_then_else_, bytes, is, from-to, one-of, white, text-byte, capital, digit, letter, letter-or-digit, value-character, every}
+use Rattle.paper.specs.Values.{lies-from}
 use Rattle.paper.proofs.Laws.{both-left, both-right}
 use Rattle.paper_grammar.proofs.AllBytes.{is-byte}
 use Rattle.form_ranks.specs.Ranks.{rank}
@@ -92,6 +93,10 @@ everywhere p from e f g b = by (leb b 255) refl
     by true h = let k = leb-true b 255 h in agree-says _ _ (below-says (λ b. agree (p b) (from (rank b))) 256 e b (omega arith))
     by false h = let k = leb-false b 255 h in rw (no-rank b k, f) (g b k)
 
+all-small : each-below (λ b. leb (rank b) 255) 256 ≡ true
+unfolding each-below rank text-byte capital letter digit from-to one-of is
+all-small = refl
+
 pub text-from : (b : ℕ) → text-byte b ≡ leb 1 (rank b)
 unfolding each-below agree rank text-byte capital letter digit from-to one-of is
 text-from = everywhere text-byte (leb 1) refl refl not-text
@@ -112,6 +117,15 @@ pub capital-from : (b : ℕ) → capital b ≡ leb 7 (rank b)
 unfolding each-below agree rank text-byte capital letter digit from-to one-of is
 capital-from = everywhere capital (leb 7) refl refl not-capital
 
-pub white-from : (b : ℕ) → white b ≡ (leb 2 (rank b) && leb (rank b) 3)
-unfolding each-below agree rank white text-byte capital letter digit from-to one-of is
-white-from = everywhere white (λ r. leb 2 r && leb r 3) refl refl not-white
+pub white-from : (b : ℕ) → white b ≡ lies-from 2 3 (rank b)
+unfolding each-below agree rank white text-byte capital letter digit from-to one-of is lies-from
+white-from = everywhere white (lies-from 2 3) refl refl not-white
+
+-- No rank is above 7, so that a rank from `low` on lies from there to 255.
+pub up-to-all : (low b : ℕ) → leb low (rank b) ≡ lies-from low 255 (rank b)
+unfolding lies-from
+up-to-all low b = rw (small (leb b 255) refl) (sym (and-true (leb low (rank b))))
+  where
+    small : (t : Bool) → leb b 255 ≡ t → leb (rank b) 255 ≡ true
+    small true h = let k = leb-true b 255 h in below-says (λ b. leb (rank b) 255) 256 all-small b (omega arith)
+    small false h = rw (no-rank b (leb-false b 255 h))

@@ -2,6 +2,7 @@
 // 4 punctuation of the characters of values, 5 digit, 6 small letter, 7 capital.
 ghost use mathlib.Core.Path.{_≡_};
 ghost use Rattle.paper.specs.Bytes.{white};
+ghost use Rattle.paper.specs.Values.{lies-from};
 ghost use Rattle.form_ranks.specs.Ranks.{rank, RanksAre};
 
 // The rank of each byte. A const table is made anew wherever it is used: make it once, and lend it.
@@ -46,12 +47,19 @@ pub fn rank(ranks: &Ranks, b: u8) -> u8
     ranks[b as usize]
 }
 
+// The rank of a byte lies from low to high.
+pub fn ranked(ranks: &Ranks, b: u8, low: u8, high: u8) -> bool
+    ensures { λ r. ⌜ (RanksAre (now (ranks .entry)) → r ≡ lies-from low high (rank b)) ⌝ }
+{
+    let r = rank(ranks, b);
+    if r < low {
+        return false;
+    }
+    r <= high
+}
+
 pub fn is_white(ranks: &Ranks, b: u8) -> bool
     ensures { λ r. ⌜ (RanksAre (now (ranks .entry)) → r ≡ white b) ⌝ }
 {
-    let r = rank(ranks, b);
-    if r < 2 {
-        return false;
-    }
-    r <= 3
+    ranked(ranks, b, 2, 3)
 }

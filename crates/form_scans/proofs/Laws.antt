@@ -10,16 +10,16 @@ use native.Mathlib.Decide.{decLe}
 use lib.ListN.{length, getD, take, drop, length-append, length-drop, drop-of-length-le}
 use lib.Seq.{drop-cons, take-suc, getD-drop}
 use lib.Dec.{eqb}
-use borrow.Author.Tests.{eq-eqb, ne-eqb, eqb-true, eqb-false, le-leb, lt-leb}
+use borrow.Author.Tests.{eq-eqb, ne-eqb, eqb-true, eqb-false, le-leb, leb-true}
 use Rattle.paper.specs.Bytes.{white, text-byte, value-character, letter-or-digit}
 use Rattle.paper.specs.Form.{Element}
 use Rattle.paper.specs.Computed.Reading.{Open, State, naming, blank, in-text, want, step, ended, run, stops-at}
 use Rattle.paper_grammar.specs.Stays.{Stays}
-use Rattle.form_scans.specs.Scans.{from, Scanned, to, stops, Word, end-of, Through, FourWhite, Run, Along, Spelt, Name}
+use Rattle.form_scans.specs.Scans.{from, Scanned, to, stops, Word, end-of, Through, IsClass, Run, White, Along, Spelt, Name}
 use Rattle.form_scans.specs.declared.Scan.{Scan}
 use Rattle.form_scans.specs.declared.Scan.the-variants.{To, StopsAt}
 use Rattle.form_ranks.specs.Ranks.{rank}
-use Rattle.form_ranks.proofs.Classes.{text-from, value-from, name-from}
+use Rattle.form_ranks.proofs.Classes.{text-from, value-from, name-from, up-to-all}
 use Rattle.paper_grammar.proofs.Leads.{run-next, run-stuck}
 
 pub from-next : (s : List ℕ) (q : State) (at : ℕ) {r : State} → at < length s → step q at (getD s at 0) ≡ some r → from s q at ≡ from s r (at + 1)
@@ -173,6 +173,33 @@ one-further P s at i f e k l u = go (decLe i k)
     go (yes m) = let z : i ≡ k = omega (arith, m, u) in subst (λ z. P (getD s z 0)) z e
     go (no m) = f k l (omega (arith, m))
 
+-- and four bytes in turn have it
+pub of-four : (P : ℕ → Type 0) (s : List ℕ) (at : ℕ) → P (getD s at 0) → P (getD s (at + 1) 0) → P (getD s (at + 2) 0) → P (getD s (at + 3) 0)
+    → (k : ℕ) → at ≤ k → k < at + 4 → P (getD s k 0)
+of-four P s at a b c d k l u =
+    let none : (k : ℕ) → at ≤ k → k < at → P (getD s k 0) = λ k l u. absurd (omega (arith, l, u)) in
+    let one = one-further P s at at none a in
+    let two = one-further P s at (at + 1) one b in
+    let three = one-further P s at (at + 2) (λ k l u. two k l (omega (arith, u))) c in
+    one-further P s at (at + 3) (λ k l u. three k l (omega (arith, u))) d k l (omega (arith, u))
+
+-- what holds of every byte up to one offset, and from there up to another
+pub and-then : (P : ℕ → Type 0) (s : List ℕ) (at i r : ℕ) → ((k : ℕ) → at ≤ k → k < i → P (getD s k 0)) → ((k : ℕ) → i ≤ k → k < r → P (getD s k 0))
+    → (k : ℕ) → at ≤ k → k < r → P (getD s k 0)
+and-then P s at i r f g k l u = go (decLe i k)
+  where
+    go : Dec (i ≤ k) → P (getD s k 0)
+    go (yes m) = g k m u
+    go (no m) = f k l (omega (arith, m))
+
+-- what holds up to one offset, and goes on from each to the next, holds up to another
+pub climb : (P : ℕ → Type 0) (at r : ℕ) → at ≤ r → P at → ((i : ℕ) → at ≤ i → i < r → P i → P (i + 1)) → P r
+climb P at r h p f = let z : at + (r - at) ≡ r = omega arith in subst P z (go (r - at) (omega arith))
+  where
+    go : (m : ℕ) → at + m ≤ r → P (at + m)
+    go zero l = subst P (omega arith) p
+    go (suc m) l = subst P (omega arith) (f (at + m) (omega arith) (omega arith) (go m (omega arith)))
+
 -- white space
 pub through-start : (s : List ℕ) (at : ℕ) → at ≤ length s → Through s at at
 through-start s at h = record {
@@ -196,16 +223,6 @@ through-next {s} {at} i t h e = record {
   blanks = λ o w. let (w′, f) = t .blanks o w in (w′ ++ (getD s i 0 ∷ []), λ k. f k ∙ from-next s _ i h (blank-step o w′ k i (getD s i 0) e));
   all-white = λ k l u. one-further (λ z. white z ≡ true) s at i (t .all-white) e k l u;
 }
-
-pub through-four : {s : List ℕ} {at : ℕ} (i : ℕ) → Through s at i → FourWhite s i → Through s at (i + 4)
-through-four {s} {at} i t w =
-    let l = w .within in
-    let a = through-next i t (omega (arith, l)) (w .first) in
-    let b = through-next (i + 1) a (omega (arith, l)) (w .second) in
-    let c : Through s at (i + 2) = subst (λ z. Through s at z) (omega arith) b in
-    let d = through-next (i + 2) c (omega (arith, l)) (w .third) in
-    let e : Through s at (i + 3) = subst (λ z. Through s at z) (omega arith) d in
-    subst (λ z. Through s at z) (omega arith) (through-next (i + 3) e (omega (arith, l)) (w .fourth))
 
 -- text
 pub along-start : (s : List ℕ) (at : ℕ) → at ≤ length s → Along s at at
@@ -260,52 +277,54 @@ spelt-next {s} {at} i t h n e =
           (from-next s _ i h (name-step depth lt (take (i - at) (drop at s)) (at + 32 - (i + 1)) k i (getD s i 0) e));
     }
 
--- Bytes of a rank or a higher one: every one of them, from an offset on.
-module _ {s : List ℕ} {at stop n r : ℕ} (t : Run s at stop n r) (h : stop ≤ length s) where
-  -- they are text
-  along-so-far : 1 ≤ n → (m : ℕ) → at + m ≤ r → Along s at (at + m)
-  along-so-far l zero u = subst (λ z. Along s at z) (omega arith) (along-start s at (let a = t .rises in let b = t .within in omega (arith, a, b, h)))
-  along-so-far l (suc m) u =
-      let a = t .ranked (at + m) (omega arith) (omega (arith, u)) in
-      let b = t .within in
-      subst (λ z. Along s at z) (omega arith)
-      (along-next (at + m) (along-so-far l m (omega (arith, u))) (omega (arith, u, b, h))
-      (text-from (getD s (at + m) 0) ∙ le-leb 1 (rank (getD s (at + m) 0)) (omega (arith, l, a))))
-
-  pub along-run : 1 ≤ n → Along s at r
-  along-run l = let a = t .rises in subst (λ z. Along s at z) (omega (arith, a)) (along-so-far l (r - at) (omega (arith, a)))
-
-  -- they are characters of values
-  pub values-run : 3 ≤ n → (k : ℕ) → at ≤ k → k < r → value-character (getD s k 0) ≡ true
-  values-run l k a b = let c = t .ranked k a b in value-from (getD s k 0) ∙ le-leb 3 (rank (getD s k 0)) (omega (arith, l, c))
-
-  -- and the byte behind them is no text
-  pub text-over : n ≡ 1 → r < stop → text-byte (getD s r 0) ≡ false
-  text-over e l = let c = t .other l in text-from (getD s r 0) ∙ lt-leb 1 (rank (getD s r 0)) (omega (arith, e, c))
-
--- a name, of which the first byte has been read
-module _ {s : List ℕ} {at stop r : ℕ} (t : Run s (at + 1) stop 5 r) (h : stop ≤ length s) (u : stop ≤ at + 32) where
-  spelt-so-far : (m : ℕ) → at + 1 + m ≤ r → Spelt s at (at + 1 + m)
-  spelt-so-far zero l = subst (λ z. Spelt s at z) (omega arith) (spelt-start s at (let a = t .rises in let b = t .within in omega (arith, a, b, h)))
-  spelt-so-far (suc m) l =
-      let a = t .ranked (at + 1 + m) (omega arith) (omega (arith, l)) in
-      let b = t .within in
-      subst (λ z. Spelt s at z) (omega arith)
-      (spelt-next (at + 1 + m) (spelt-so-far m (omega (arith, l))) (omega (arith, l, b, h)) (λ e. omega (arith, e, l, b, u))
-      (name-from (getD s (at + 1 + m) 0) ∙ le-leb 5 (rank (getD s (at + 1 + m) 0)) a))
-
-  pub name-run : (stop < at + 32 → stop ≡ length s) → Name s at r
-  name-run f =
+-- A run of bytes of a class.
+module _ {s : List ℕ} {at stop r : ℕ} {class : ℕ → Bool} (t : Run s at stop class r) (h : stop ≤ length s) where
+  -- It is text, where the class is.
+  pub along-run : ((b : ℕ) → class b ≡ true → text-byte b ≡ true) → Along s at r
+  along-run f =
       let a = t .rises in
       let b = t .within in
-      record {
-        spelt = subst (λ z. Spelt s at z) (omega (arith, a)) (spelt-so-far (r - (at + 1)) (omega (arith, a)));
-        other = λ l e. further l e (decLe stop r) (decLe (at + 32) stop);
-      }
-    where
-      further : r < length s → letter-or-digit (getD s r 0) ≡ true → Dec (stop ≤ r) → Dec (at + 32 ≤ stop) → r ≡ at + 32
-      further l e (yes m) (yes n) = let b = t .within in omega (arith, m, n, b, u)
-      further l e (yes m) (no n) = let z = f (omega (arith, n)) in absurd (omega (arith, l, m, z))
-      further l e (no m) d =
-          let c = t .other (omega (arith, m)) in
-          absurd (false≢true (sym (name-from (getD s r 0) ∙ lt-leb 5 (rank (getD s r 0)) c) ∙ e))
+      climb (Along s at) at r a (along-start s at (omega (arith, a, b, h)))
+      (λ i l u along. along-next i along (omega (arith, u, b, h)) (f (getD s i 0) (t .all i l u)))
+
+-- It is white space.
+pub white-run : {s : List ℕ} {at r : ℕ} → Run s at (length s) white r → White s at r
+white-run {s} {at} {r} t =
+    let a = t .rises in
+    let b = t .within in
+    record {
+      through = climb (Through s at) at r a (through-start s at (omega (arith, a, b)))
+          (λ i l u through. through-next i through (omega (arith, u, b)) (t .all i l u));
+      other = t .other;
+    }
+
+-- the characters of values are text
+pub value-is-text : (b : ℕ) → value-character b ≡ true → text-byte b ≡ true
+value-is-text b e = let l = leb-true 3 (rank b) (sym (value-from b) ∙ e) in text-from b ∙ le-leb 1 (rank b) (omega (arith, l))
+
+-- a name, of which the first byte has been read
+pub name-run : {s : List ℕ} {at stop r : ℕ} → Run s (at + 1) stop letter-or-digit r → stop ≤ length s → stop ≤ at + 32
+    → (stop < at + 32 → stop ≡ length s) → Name s at r
+name-run {s} {at} {stop} {r} t h u f =
+    let a = t .rises in
+    let b = t .within in
+    record {
+      spelt = climb (Spelt s at) (at + 1) r a (spelt-start s at (omega (arith, a, b, h)))
+          (λ i l v spelt. spelt-next i spelt (omega (arith, v, b, h)) (λ e. omega (arith, e, v, b, u)) (t .all i l v));
+      other = λ l e. further l e (decLe stop r) (decLe (at + 32) stop);
+    }
+  where
+    further : r < length s → letter-or-digit (getD s r 0) ≡ true → Dec (stop ≤ r) → Dec (at + 32 ≤ stop) → r ≡ at + 32
+    further l e (yes m) (yes n) = let b = t .within in omega (arith, m, n, b, u)
+    further l e (yes m) (no n) = let z = f (omega (arith, n)) in absurd (omega (arith, l, m, z))
+    further l e (no m) d = absurd (false≢true (sym (t .other (omega (arith, m))) ∙ e))
+
+-- The classes of the scans, by their ranks.
+pub text-class : IsClass text-byte 1 255
+text-class b = text-from b ∙ up-to-all 1 b
+
+pub value-class : IsClass value-character 3 255
+value-class b = value-from b ∙ up-to-all 3 b
+
+pub name-class : IsClass letter-or-digit 5 255
+name-class b = name-from b ∙ up-to-all 5 b

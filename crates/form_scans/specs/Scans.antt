@@ -10,6 +10,7 @@ use Rattle.paper.specs.Computed.Reading.{Open, State, want, blank, in-text, nam
 use Rattle.form_scans.specs.declared.Scan.{Scan}
 use Rattle.form_scans.specs.declared.Scan.the-variants.{To, StopsAt}
 use Rattle.paper_grammar.specs.Stays.{Stays}
+use Rattle.paper.specs.Values.{lies-from}
 use Rattle.form_ranks.specs.Ranks.{rank}
 
 -- the machine in a state, with the rest of the text from an offset on
@@ -43,6 +44,21 @@ pub record Tag (name : List ℕ) (depth lt end : ℕ) : Type 0 where
 abbrev pub Opened : (s : List ℕ) (at : ℕ) (name : List ℕ) (depth lt : ℕ) → ((Element → State) → State) → Scan → Type 0
 Opened s at name depth lt ahead r = Scanned s at ahead (λ k (o : Tag name depth lt (end-of r)). blank (o .tag) [] k) r
 
+-- the ranks of the bytes from one offset up to another lie from low to high
+abbrev pub Ranked : (s : List ℕ) (at r low high : ℕ) → Type 0
+Ranked s at r low high = (k : ℕ) → at ≤ k → k < r → lies-from low high (rank (getD s k 0)) ≡ true
+
+-- a class of bytes is told by its ranks
+abbrev pub IsClass : (class : ℕ → Bool) (low high : ℕ) → Type 0
+IsClass class low high = (b : ℕ) → class b ≡ lies-from low high (rank b)
+
+-- bytes of a class, up to the first other byte, or up to an offset
+pub record Run (s : List ℕ) (at stop : ℕ) (class : ℕ → Bool) (r : ℕ) : Type 0 where
+  pub rises : at ≤ r
+  pub within : r ≤ stop
+  pub all : (k : ℕ) → at ≤ k → k < r → class (getD s k 0) ≡ true
+  pub other : r < stop → class (getD s r 0) ≡ false
+
 -- white space between two offsets
 pub record Through (s : List ℕ) (at r : ℕ) : Type 0 where
   pub rises : at ≤ r
@@ -51,25 +67,10 @@ pub record Through (s : List ℕ) (at r : ℕ) : Type 0 where
   pub blanks : (o : Open) (w : List ℕ) → (w′ : List ℕ) × ((k : Element → State) → from s (blank o w k) at ≡ from s (blank o w′ k) r)
   pub all-white : (k : ℕ) → at ≤ k → k < r → white (getD s k 0) ≡ true
 
--- four bytes of it
-pub record FourWhite (s : List ℕ) (at : ℕ) : Type 0 where
-  pub within : at + 4 ≤ length s
-  pub first : white (getD s at 0) ≡ true
-  pub second : white (getD s (at + 1) 0) ≡ true
-  pub third : white (getD s (at + 2) 0) ≡ true
-  pub fourth : white (getD s (at + 3) 0) ≡ true
-
 -- white space up to the first other byte
 pub record White (s : List ℕ) (at r : ℕ) : Type 0 where
   pub through : Through s at r
   pub other : r < length s → white (getD s r 0) ≡ false
-
--- bytes of a rank or a higher one, up to the first other byte, or up to an offset
-pub record Run (s : List ℕ) (at stop n r : ℕ) : Type 0 where
-  pub rises : at ≤ r
-  pub within : r ≤ stop
-  pub ranked : (k : ℕ) → at ≤ k → k < r → n ≤ rank (getD s k 0)
-  pub other : r < stop → rank (getD s r 0) < n
 
 -- a name, or its beginning, between two offsets
 pub record Spelt (s : List ℕ) (at r : ℕ) : Type 0 where

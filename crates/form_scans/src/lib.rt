@@ -1,7 +1,7 @@
 // Parts of the written form, read from an offset on: white space, names, text, fixed bytes, tags.
 use form_ranks::Ranks;
 ghost use mathlib.Core.Path.{_≡_};
-ghost use mathlib.Core.Bool.{true, false};
+ghost use mathlib.Core.Bool.{Bool, true, false};
 ghost use mathlib.Core.List.{List};
 ghost use Prim.Native.Nat.{ℕ, _+_, _≤_, _<_};
 ghost use lib.ListN.{length, getD};
@@ -10,7 +10,7 @@ ghost use Rattle.paper.specs.Form.{end-tag};
 ghost use Rattle.paper.specs.Computed.Reading.{naming};
 ghost use Rattle.form_ranks.specs.Ranks.{RanksAre};
 ghost use Rattle.form_names.specs.Names.{name-number};
-ghost use Rattle.form_scans.specs.Scans.{Word, Opened, FourWhite, White, Run, Name, Values, Text, CapitalAt, Capitals, opens-currency};
+ghost use Rattle.form_scans.specs.Scans.{Word, Opened, Ranked, IsClass, Run, White, Name, Values, Text, CapitalAt, Capitals, opens-currency};
 
 // Some part of the message was read to an offset, or stops at one.
 pub enum Scan {
@@ -18,58 +18,52 @@ pub enum Scan {
     StopsAt(usize),
 }
 
-// Four bytes of white space stand at an offset.
-fn four_white(s: &[u8], ranks: &Ranks, at: usize) -> bool
-    ensures { λ r. ⌜ (r ≡ true → at + 4 ≤ length (now (s .entry))) × (RanksAre (now (ranks .entry)) → r ≡ true → FourWhite (now (s .entry)) at) ⌝ }
+// Four bytes stand at an offset, before another, whose ranks lie from low to high.
+fn four_ranked(s: &[u8], ranks: &Ranks, at: usize, stop: usize, low: u8, high: u8) -> bool
+    requires { ⌜ (at ≤ stop) × (stop ≤ length (now s)) ⌝ }
+    ensures { λ r. ⌜ (r ≡ true → at + 4 ≤ stop) × (RanksAre (now (ranks .entry)) → r ≡ true → Ranked (now (s .entry)) at (at + 4) low high) ⌝ }
 {
-    if s.len() <= at {
+    if stop - at < 4 {
         return false;
     }
-    if s.len() - at < 4 {
+    if !form_ranks::ranked(ranks, s[at], low, high) {
         return false;
     }
-    if !form_ranks::is_white(ranks, s[at]) {
+    if !form_ranks::ranked(ranks, s[at + 1], low, high) {
         return false;
     }
-    if !form_ranks::is_white(ranks, s[at + 1]) {
+    if !form_ranks::ranked(ranks, s[at + 2], low, high) {
         return false;
     }
-    if !form_ranks::is_white(ranks, s[at + 2]) {
-        return false;
+    form_ranks::ranked(ranks, s[at + 3], low, high)
+}
+
+// The bytes from an offset on whose ranks lie from low to high, up to another offset at most; four at a time.
+fn run_end(s: &[u8], ranks: &Ranks, at: usize, stop: usize, low: u8, high: u8) -> usize
+    requires { ⌜ (at ≤ stop) × (stop ≤ length (now s)) ⌝ }
+    ensures { λ r. ⌜ (RanksAre (now (ranks .entry)) → (class : ℕ → Bool) → IsClass class low high → Run (now (s .entry)) at stop class r) ⌝ }
+{
+    let mut i = at;
+    while four_ranked(s, ranks, i, stop, low, high) {
+        i += 4;
     }
-    form_ranks::is_white(ranks, s[at + 3])
+    while i < stop {
+        if !form_ranks::ranked(ranks, s[i], low, high) {
+            return i;
+        }
+        i += 1;
+    }
+    i
 }
 
 // The white space at an offset ends at the first other byte.
 pub fn white_end(s: &[u8], ranks: &Ranks, at: usize) -> usize
     ensures { λ r. ⌜ (RanksAre (now (ranks .entry)) → at ≤ length (now (s .entry)) → White (now (s .entry)) at r) ⌝ }
 {
-    let mut i = at;
-    while four_white(s, ranks, i) {
-        i += 4;
+    if s.len() < at {
+        return at;
     }
-    while i < s.len() {
-        if !form_ranks::is_white(ranks, s[i]) {
-            return i;
-        }
-        i += 1;
-    }
-    i
-}
-
-// The bytes from an offset on that have this rank or a higher one, up to another offset at most.
-fn run_end(s: &[u8], ranks: &Ranks, at: usize, stop: usize, rank: u8) -> usize
-    requires { ⌜ (at ≤ stop) × (stop ≤ length (now s)) ⌝ }
-    ensures { λ r. ⌜ (RanksAre (now (ranks .entry)) → Run (now (s .entry)) at stop rank r) ⌝ }
-{
-    let mut i = at;
-    while i < stop {
-        if form_ranks::rank(ranks, s[i]) < rank {
-            return i;
-        }
-        i += 1;
-    }
-    i
+    run_end(s, ranks, at, s.len(), 2, 3)
 }
 
 // The name that begins with the letter at an offset ends at the first byte that is no letter or digit, or is its 33rd.
@@ -80,9 +74,29 @@ pub fn name_end(s: &[u8], ranks: &Ranks, at: usize) -> usize
         return at;
     }
     if s.len() - at < 32 {
-        return run_end(s, ranks, at + 1, s.len(), 5);
+        return run_end(s, ranks, at + 1, s.len(), 5, 255);
     }
-    run_end(s, ranks, at + 1, at + 32, 5)
+    run_end(s, ranks, at + 1, at + 32, 5, 255)
+}
+
+// The characters of values at an offset end at the first other byte.
+pub fn value_end(s: &[u8], ranks: &Ranks, at: usize) -> usize
+    ensures { λ r. ⌜ (RanksAre (now (ranks .entry)) → at ≤ length (now (s .entry)) → Values (now (s .entry)) at r) ⌝ }
+{
+    if s.len() < at {
+        return at;
+    }
+    run_end(s, ranks, at, s.len(), 3, 255)
+}
+
+// Text ends at the first other byte.
+pub fn text_end(s: &[u8], ranks: &Ranks, at: usize) -> usize
+    ensures { λ r. ⌜ (RanksAre (now (ranks .entry)) → at ≤ length (now (s .entry)) → Text (now (s .entry)) at r) ⌝ }
+{
+    if s.len() < at {
+        return at;
+    }
+    run_end(s, ranks, at, s.len(), 1, 255)
 }
 
 // These very bytes.
@@ -181,24 +195,4 @@ pub fn tag_end(s: &[u8], ranks: &Ranks, number: usize, at: usize) -> Scan
         return Scan::StopsAt(at);
     }
     currency(s, ranks, at + 1)
-}
-
-// The characters of values at an offset end at the first other byte.
-pub fn value_end(s: &[u8], ranks: &Ranks, at: usize) -> usize
-    ensures { λ r. ⌜ (RanksAre (now (ranks .entry)) → at ≤ length (now (s .entry)) → Values (now (s .entry)) at r) ⌝ }
-{
-    if s.len() < at {
-        return at;
-    }
-    run_end(s, ranks, at, s.len(), 3)
-}
-
-// Text ends at the first other byte.
-pub fn text_end(s: &[u8], ranks: &Ranks, at: usize) -> usize
-    ensures { λ r. ⌜ (RanksAre (now (ranks .entry)) → at ≤ length (now (s .entry)) → Text (now (s .entry)) at r) ⌝ }
-{
-    if s.len() < at {
-        return at;
-    }
-    run_end(s, ranks, at, s.len(), 1)
 }

@@ -50,7 +50,7 @@ returns-2 c = (c .before .before .before .before .before .before .before .before
 
 returns-3 : tie.Need-returns-3
 unfolding bytes
-returns-3 c = (put-kept (c .put-down .ensures) .length-kept ∙ c .before .before .before .before .before .before .before .before .before .before .content .ensures .kept .length-kept, in-root-read _ _ _ (c .before .before .before .before .before .before .before .before .before .before .before .before .before .before .before .args .at) (c .before .before .before .before .before .before .before .before .before .before .before .before .before .before .before .args .start) _ _ _ (as-held (c .before .before .before .before .before .before .before .before .close .given .1) (c .before .before .before .before .before .before .before .before .before .before .content .ensures)) (c .before .before .before .before .before .end-tag .ensures ((as-held (c .before .before .before .before .before .before .before .before .close .given .1) (c .before .before .before .before .before .before .before .before .before .before .content .ensures)) .goes _ _ _ refl .2)) _ _ (c .before .before .before .q .given .1) (c .put-down .ensures) (c .before .before .before .before .before .before .before .before .before .before .before .before .before .before .before .pre .1) (c .before .before .before .before .before .before .before .before .before .before .before .before .before .before .before .pre .2))
+returns-3 c = (put-kept (c .put-down .ensures) .length-kept ∙ c .before .before .before .before .before .before .before .before .before .before .content .ensures .kept .length-kept, in-root-read _ _ _ (c .before .before .before .before .before .before .before .before .before .before .before .before .before .before .before .args .at) (c .before .before .before .before .before .before .before .before .before .before .before .before .before .before .before .args .start) _ _ _ (as-held (c .before .before .before .before .before .before .before .before .close .given .1) (c .before .before .before .before .before .before .before .before .before .before .content .ensures)) (c .before .before .before .before .before .end-tag .ensures ((as-held (c .before .before .before .before .before .before .before .before .close .given .1) (c .before .before .before .before .before .before .before .before .before .before .content .ensures)) .goes _ _ _ refl .2)) _ _ (c .before .before .before .q .given .1) (c .put-down .ensures) (c .before .before .before .before .before .before .before .before .before .before .before .before .before .before .before .pre .1))
 
 pub in-root-spec : {M : Type 1} → statement M
 in-root-spec =

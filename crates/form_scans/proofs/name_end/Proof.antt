@@ -1,7 +1,8 @@
-use native.Mathlib.Omega.{arith}
-use mathlib.Core.Path.{_≡_, refl, sym, ap, subst, _∙_}
-use Rattle.form_scans.proofs.Laws.{name-run}
 use borrow.Author.Needs.{needs}
+use native.Mathlib.Omega.{arith}
+use mathlib.Core.Path.{refl}
+use Rattle.paper.specs.Bytes.{letter-or-digit}
+use Rattle.form_scans.proofs.Laws.{name-run, name-class}
 use Rattle.form_scans.proofs.name_end.Statement.{statement}
 use Rattle.form_scans.proofs.name_end.Tie as tie
 use Rattle.form_scans.proofs.name_end.Reads as reads
@@ -21,7 +22,7 @@ run-end-requires : tie.Need-run-end-requires
 run-end-requires c κs = search needs
 
 returns-2 : tie.Need-returns-2
-returns-2 c = λ n h. let l = c .before .if2 .taken in name-run (c .run-end .ensures n) (omega arith) (omega (arith, l, h)) (λ _. refl)
+returns-2 c = λ n h. let l = c .before .if2 .taken in name-run (c .run-end .ensures n letter-or-digit name-class) (omega arith) (omega (arith, l, h)) (λ _. refl)
 
 add-run-end-2 : tie.Need-add-run-end-2
 add-run-end-2 c = search needs
@@ -33,7 +34,7 @@ run-end-requires-2 : tie.Need-run-end-requires-2
 run-end-requires-2 c κs = search needs
 
 returns-3 : tie.Need-returns-3
-returns-3 c = λ n h. let l = c .before .if2 .left in name-run (c .run-end2 .ensures n) (omega (arith, l, h)) (omega arith) (λ u. absurd (omega (arith, u)))
+returns-3 c = λ n h. let l = c .before .if2 .left in name-run (c .run-end2 .ensures n letter-or-digit name-class) (omega (arith, l, h)) (omega arith) (λ u. absurd (omega (arith, u)))
 
 pub name-end-spec : {M : Type 1} → statement M
 name-end-spec =

@@ -1,45 +1,81 @@
 use borrow.Author.Needs.{needs}
 use native.Mathlib.Omega.{arith}
-use Prim.Native.Nat.{ℕ, _-_, _≤_, _<_}
-use mathlib.Core.Path.{_≡_, refl, sym, ap, subst, _∙_}
-use lib.ListN.{length, getD}
-use Rattle.form_ranks.specs.Ranks.{rank as rank-of, RanksAre}
-use Rattle.form_scans.proofs.Laws.{one-further}
+use Prim.Native.Nat.{_-_, _≤_}
+use mathlib.Core.Bool.{true}
+use mathlib.Core.Path.{_≡_, sym, _∙_}
+use lib.ListN.{length}
+use borrow.Author.Tests.{not-true, not-false}
+use Rattle.paper.specs.Values.{lies-from}
+use Rattle.form_ranks.specs.Ranks.{rank, RanksAre}
+use Rattle.form_scans.specs.Scans.{Ranked}
+use Rattle.form_scans.proofs.Laws.{one-further, and-then}
 use Rattle.form_scans.proofs.run_end.Statement.{statement}
 use Rattle.form_scans.proofs.run_end.Tie as tie
 use Rattle.form_scans.proofs.run_end.Reads as reads
 use Rattle.form_scans.proofs.run_end.Lts as lts
-use Rattle.form_ranks.proofs.rank.Reads as rank-reads
+use Rattle.form_ranks.proofs.ranked.Reads as ranked-reads
+use Rattle.form_scans.proofs.four_ranked.Reads as four-ranked-reads
 
 abbrev Inv-loop : tie.InvT-loop
-Inv-loop s ranks at stop rank i₀ i = (at ≤ i) × (i ≤ stop) × (stop ≤ length s) × (RanksAre ranks → (k : ℕ) → at ≤ k → k < i → rank ≤ rank-of (getD s k 0))
+Inv-loop s ranks at stop low high i₀ i = (at ≤ i) × (i ≤ stop) × (stop ≤ length s) × (RanksAre ranks → Ranked s at i low high)
 
 abbrev μ-loop : tie.MeasureT-loop
-μ-loop s ranks at stop rank i₀ i = stop - i
+μ-loop s ranks at stop low high i₀ i = stop - i
 
-loop-holds : tie.Need-loop-holds Inv-loop μ-loop
+abbrev Inv-loop2 : tie.InvT-loop2
+Inv-loop2 s ranks at stop low high i₀ i = (at ≤ i) × (i ≤ stop) × (stop ≤ length s) × (RanksAre ranks → Ranked s at i low high)
+
+abbrev μ-loop2 : tie.MeasureT-loop2
+μ-loop2 s ranks at stop low high i₀ i = stop - i
+
+loop-holds : tie.Need-loop-holds Inv-loop μ-loop Inv-loop2 μ-loop2
 loop-holds c = (search needs, search needs, search needs, λ n k l u. absurd (omega (arith, l, u)))
 
-shared-slice-read-rank : tie.Need-shared-slice-read-rank Inv-loop μ-loop
-shared-slice-read-rank c = search needs
+four-ranked-requires : tie.Need-four-ranked-requires Inv-loop μ-loop Inv-loop2 μ-loop2
+four-ranked-requires c κs = search needs
 
-rank-requires : tie.Need-rank-requires Inv-loop μ-loop
-rank-requires c κs = search needs
+add-i : tie.Need-add-i Inv-loop μ-loop Inv-loop2 μ-loop2
+add-i c = let a = c .before .four-ranked .ensures .0 (c .if1 .taken) in search needs
 
-returns : tie.Need-returns Inv-loop μ-loop
-returns c = λ n. record { rises = c .before .before .before .before .loop .inv .0; within = c .before .before .before .before .loop .inv .1; ranked = c .before .before .before .before .loop .inv .3 n; other = λ _. let e = c .before .rank .ensures n in let l = c .if1 .taken in omega (arith, e, l) }
+loop-less : tie.Need-loop-less Inv-loop μ-loop Inv-loop2 μ-loop2
+loop-less c = let a = c .before .four-ranked .ensures .0 (c .if1 .taken) in search needs
 
-add-i : tie.Need-add-i Inv-loop μ-loop
-add-i c = search needs
+loop-again : tie.Need-loop-again Inv-loop μ-loop Inv-loop2 μ-loop2
+loop-again c = let a = c .before .four-ranked .ensures .0 (c .if1 .taken) in (
+  search needs,
+  search needs,
+  search needs,
+  λ n. and-then (λ b. lies-from (c .before .before .before .before .args .low) (c .before .before .before .before .args .high) (rank b) ≡ true) (c .before .before .before .before .args .s .now) (c .before .before .before .before .args .at) (c .before .before .loop .i) _ (c .before .before .loop .inv .3 n) (c .before .four-ranked .ensures .1 n (c .if1 .taken)),
+)
 
-loop-less : tie.Need-loop-less Inv-loop μ-loop
-loop-less c = search needs
+loop2-holds : tie.Need-loop2-holds Inv-loop μ-loop Inv-loop2 μ-loop2
+loop2-holds c = c .before .before .loop .inv
 
-loop-again : tie.Need-loop-again Inv-loop μ-loop
-loop-again c = (search needs, search needs, search needs, λ n. one-further (λ b. c .before .before .before .before .before .before .args .«rank» ≤ rank-of b) (c .before .before .before .before .before .before .args .s .now) (c .before .before .before .before .before .before .args .at) (c .before .before .before .before .loop .i) (c .before .before .before .before .loop .inv .3 n) (let e = c .before .rank .ensures n in let l = c .if1 .left in omega (arith, e, l)))
+shared-slice-read-ranked : tie.Need-shared-slice-read-ranked Inv-loop μ-loop Inv-loop2 μ-loop2
+shared-slice-read-ranked c = search needs
 
-returns-2 : tie.Need-returns-2 Inv-loop μ-loop
-returns-2 c = λ n. record { rises = c .before .loop .inv .0; within = c .before .loop .inv .1; ranked = c .before .loop .inv .3 n; other = λ l. let a = c .loop-test .left in absurd (omega (arith, a, l)) }
+ranked-requires : tie.Need-ranked-requires Inv-loop μ-loop Inv-loop2 μ-loop2
+ranked-requires c κs = search needs
+
+returns : tie.Need-returns Inv-loop μ-loop Inv-loop2 μ-loop2
+returns c = λ n class is. record { rises = c .before .before .before .before .loop2 .inv .0; within = c .before .before .before .before .loop2 .inv .1; all = λ k l u. is _ ∙ c .before .before .before .before .loop2 .inv .3 n k l u; other = λ _. is _ ∙ (sym (c .before .ranked .ensures n) ∙ not-true _ (c .if2 .taken)) }
+
+add-i-2 : tie.Need-add-i-2 Inv-loop μ-loop Inv-loop2 μ-loop2
+add-i-2 c = search needs
+
+loop2-less : tie.Need-loop2-less Inv-loop μ-loop Inv-loop2 μ-loop2
+loop2-less c = search needs
+
+loop2-again : tie.Need-loop2-again Inv-loop μ-loop Inv-loop2 μ-loop2
+loop2-again c = (
+  search needs,
+  search needs,
+  search needs,
+  λ n. one-further (λ b. lies-from (c .before .before .before .before .before .before .before .before .before .args .low) (c .before .before .before .before .before .before .before .before .before .args .high) (rank b) ≡ true) (c .before .before .before .before .before .before .before .before .before .args .s .now) (c .before .before .before .before .before .before .before .before .before .args .at) (c .before .before .before .before .loop2 .i) (c .before .before .before .before .loop2 .inv .3 n) (sym (c .before .ranked .ensures n) ∙ not-false _ (c .if2 .left)),
+)
+
+returns-2 : tie.Need-returns-2 Inv-loop μ-loop Inv-loop2 μ-loop2
+returns-2 c = λ n class is. record { rises = c .before .loop2 .inv .0; within = c .before .loop2 .inv .1; all = λ k l u. is _ ∙ c .before .loop2 .inv .3 n k l u; other = λ l. let a = c .loop2-test .left in absurd (omega (arith, a, l)) }
 
 pub run-end-spec : {M : Type 1} → statement M
 run-end-spec =
@@ -47,11 +83,18 @@ run-end-spec =
     (tie.spec
     Inv-loop
     μ-loop
+    Inv-loop2
+    μ-loop2
     loop-holds
-    shared-slice-read-rank
-    rank-requires
-    returns
+    four-ranked-requires
     add-i
     loop-less
     loop-again
+    loop2-holds
+    shared-slice-read-ranked
+    ranked-requires
+    returns
+    add-i-2
+    loop2-less
+    loop2-again
     returns-2)

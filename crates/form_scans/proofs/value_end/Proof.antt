@@ -1,6 +1,7 @@
-use native.Mathlib.Omega.{arith}
-use Rattle.form_scans.proofs.Laws.{along-run, values-run}
 use borrow.Author.Needs.{needs}
+use native.Mathlib.Omega.{arith}
+use Rattle.paper.specs.Bytes.{value-character}
+use Rattle.form_scans.proofs.Laws.{along-run, value-is-text, value-class}
 use Rattle.form_scans.proofs.value_end.Statement.{statement}
 use Rattle.form_scans.proofs.value_end.Tie as tie
 use Rattle.form_scans.proofs.value_end.Reads as reads
@@ -14,7 +15,7 @@ run-end-requires : tie.Need-run-end-requires
 run-end-requires c κs = search needs
 
 returns-2 : tie.Need-returns-2
-returns-2 c = λ n h. record { along = along-run (c .run-end .ensures n) (omega arith) (omega arith); in-set = values-run (c .run-end .ensures n) (omega arith) (omega arith) }
+returns-2 c = λ n h. let t = c .run-end .ensures n value-character value-class in record { along = along-run t (omega arith) value-is-text; in-set = t .all }
 
 pub value-end-spec : {M : Type 1} → statement M
 value-end-spec = tie.close (tie.spec returns run-end-requires returns-2)
