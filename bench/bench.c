@@ -18,8 +18,8 @@
 #include <sys/mman.h>
 #include <time.h>
 
-#define ROUNDS 9
-#define ROUND_NS 20e6
+#define ROUNDS 40
+#define ROUND_NS 5e6
 #define STACK_BYTES (8u << 20)
 #define PAINT 0xA5
 

@@ -10,22 +10,21 @@ use native.Mathlib.Omega.{arith}
 use lib.ListN.{length, getD, take, drop}
 use lib.Seq.{drop-cons}
 use lib.Dec.{eqb}
-use borrow.Author.Tests.{eqb-true, eqb-false, ne-eqb, le-leb, lt-leb}
-use Rattle.paper.specs.Bytes.{bytes, is, from-to, one-of, white, text-byte, value-character, capital, letter, letter-or-digit, Every, every-none, every-more}
+use borrow.Author.Tests.{eqb-true, eqb-false}
+use Rattle.paper.specs.Bytes.{bytes, is, from-to, one-of, white, text-byte, value-character, capital, letter, Every, every-none, every-more}
 use Rattle.paper.specs.Form.{Element, Elements, holding-text, holding-elements, []ᵉ, _∷ᵉ_, end-tag}
 use Rattle.paper.specs.Rows.{head-of}
-use Rattle.paper.specs.Computed.Reading.{Open, closed, State, angle, naming, blank, in-text, after-child, want, ending, step, ended, stops-at}
-use Rattle.form_scans.specs.Scans.{from, Scanned, to, stops, Along, White, Values, Text}
+use Rattle.paper.specs.Computed.Reading.{Open, closed, State, angle, blank, in-text, after-child, want, ending, step, ended}
+use Rattle.form_scans.specs.Scans.{from, Scanned, to, Along, White, Values, Text}
 use Rattle.tree.specs.Laid.{between}
 use Rattle.form.specs.Reads.{Kept, Roomy, Numbered, AllNumbered, none-numbered, more-numbered, Child, ChildAt, Known, HeldTo, HeldAt, held-scan, held-next, close-of, read-scan, read-next, Holds, Whole, ContentRead, Placed, ElementRead}
-use Rattle.form_scans.specs.declared.Scan.{Scan}
 use Rattle.form_scans.specs.declared.Scan.the-variants.{To, StopsAt}
 use Rattle.form.specs.declared.Read.{Read}
 use Rattle.form.specs.declared.Read.the-variants as read
 use Rattle.form.specs.declared.Held.{Held}
 use Rattle.form.specs.declared.Held.the-variants as held
 use Rattle.paper_grammar.proofs.Complete.{among-stays}
-use Rattle.form_scans.proofs.Laws.{from-next, from-stuck, from-short, want-step, want-stuck, want-append, text-step, no-to, reached, halts, first, via, giving, chain}
+use Rattle.form_scans.proofs.Laws.{from-next, from-stuck, from-short, want-step, want-stuck, want-append, text-step, no-to, reached, halts, first, via}
 use Rattle.form.proofs.Numbering.{kept-same, kept-on, Agree, agree-same, agree-on, kept-agree, narrow, numbered-stays}
 
 no-held : {n c m k : ℕ} → held.StopsAt n ≡ held.To c m k → ⊥

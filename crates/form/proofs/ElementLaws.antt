@@ -1,17 +1,17 @@
 -- How the machine runs on over a child: its name and start tag, what it holds, its end tag; and the numbers that are put down behind it.
-use Prim.Native.Nat.{ℕ, suc, _+_, _*_, _-_, _≤_, _<_}
-use mathlib.Core.List.{List, [], _∷_, _++_}
+use Prim.Native.Nat.{ℕ, _+_, _*_, _-_, _≤_, _<_}
+use mathlib.Core.List.{List, [], _∷_}
 use mathlib.Core.Option.{none, some}
-use mathlib.Core.Bool.{Bool, true, false}
+use mathlib.Core.Bool.{true, false}
 use mathlib.Core.Path.{_≡_, refl, sym, ap, subst, _∙_}
 use native.Mathlib.Omega.{arith}
-use lib.ListN.{length, getD, take, drop, length-append, length-drop}
+use lib.ListN.{length, getD, drop, length-append, length-drop}
 use lib.Seq.{length-take-le}
 use borrow.Author.Tests.{ne-eqb, le-leb, lt-leb}
 use Rattle.paper.specs.Bytes.{bytes, is, letter, letter-or-digit}
 use Rattle.paper.specs.Form.{Element, holding-text, holding-elements, end-tag}
 use Rattle.paper.specs.Rows.{head-of}
-use Rattle.paper.specs.Computed.Reading.{Open, closed, State, angle, naming, blank, want, step, ended, stops-at}
+use Rattle.paper.specs.Computed.Reading.{closed, State, angle, naming, blank, step, ended, stops-at}
 use Rattle.form_ranks.specs.Ranks.{rank}
 use Rattle.form_ranks.proofs.Classes.{letter-from, name-from}
 use Rattle.form_names.specs.Names.{name-number}
@@ -20,7 +20,7 @@ use Rattle.tree.specs.Laid.{between, Numbers}
 use Rattle.form_scans.specs.Scans.{from, Scanned, stops, Word, end-of, Tag, Opened, Name}
 use Rattle.form_scans.specs.declared.Scan.{Scan}
 use Rattle.form_scans.specs.declared.Scan.the-variants.{To, StopsAt}
-use Rattle.form_scans.proofs.Laws.{from-next, from-stuck, from-short, no-to, reached, halts, first, via, giving, giving-at, chain}
+use Rattle.form_scans.proofs.Laws.{from-next, from-stuck, from-short, no-to, reached, halts, first, via, giving, chain}
 use Rattle.form.specs.Reads.{Roomy, Kept, PutDown, Numbered, numbered-text, numbered-elements, Holds, Whole, held-scan, held-next, close-of, ContentRead, Placed, read-scan, read-next, ElementRead, InsideRead}
 use Rattle.form.specs.declared.Read.{Read}
 use Rattle.form.specs.declared.Read.the-variants as read

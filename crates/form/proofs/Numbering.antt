@@ -1,17 +1,17 @@
 -- The numbers of elements in the buffer: what is put down stays, and with the message's bytes it is the laid-out tree.
 use Prim.Native.Nat.{ℕ, _+_, _*_, _-_, _%_, _≤_, _<_}
 use mathlib.Core.List.{List, [], _∷_, _++_}
-use mathlib.Core.Path.{_≡_, refl, sym, ap, subst, _∙_}
+use mathlib.Core.Path.{_≡_, refl, sym, ap, _∙_}
 use native.Mathlib.Omega.{arith}
 use native.Mathlib.Decide.{decLe}
 use native.Mathlib.Nat.{mod-eq-of-lt, add-zero, min-le-left}
-use lib.ListN.{length, getD, set, take, drop, length-set, length-append, length-take, take-append-drop}
-use lib.Seq.{getD-set-same, getD-set-other, drop-drop, take-at}
-use Rattle.paper.specs.Bytes.{bytes, white, value-character, Every}
-use Rattle.paper.specs.Form.{Head, Element, Elements, holding-text, holding-elements, []ᵉ, _∷ᵉ_, amount-tag, end-tag, IsStartTag, of-root, of-amount, of-any-other}
+use lib.ListN.{length, getD, set, take, drop, length-set, length-take, take-append-drop}
+use lib.Seq.{getD-set-same, getD-set-other, drop-drop}
+use Rattle.paper.specs.Bytes.{bytes}
+use Rattle.paper.specs.Form.{Head, Element, Elements, amount-tag, end-tag, IsStartTag, of-root, of-amount, of-any-other}
 use Rattle.paper_grammar.proofs.InPlace.{TagsInPlace, InPlace, text-in-place, elements-in-place, AllInPlace, none-in-place, more-in-place}
 use Rattle.form_names.specs.Names.{name-number}
-use Rattle.tree.specs.Laid.{cell-of, between, Numbers, Written, Entry, Laid, laid-text, laid-elements, LaidAll, laid-none, laid-more}
+use Rattle.tree.specs.Laid.{cell-of, between, Numbers, Written, Laid, laid-text, laid-elements, LaidAll, laid-none, laid-more}
 use Rattle.form.specs.Reads.{Kept, put, PutDown, Known, Numbered, numbered-text, numbered-elements, AllNumbered, none-numbered, more-numbered}
 
 pub kept-same : {b : List ℕ} {i : ℕ} → Kept b b i

@@ -3,7 +3,7 @@ use Prim.Native.Nat.{ℕ, _+_, _≤_, _<_}
 use mathlib.Core.List.{List, []}
 use mathlib.Core.Option.{none, some}
 use mathlib.Core.Bool.{Bool, true, false}
-use mathlib.Core.Path.{_≡_, refl, sym, ap, subst, _∙_}
+use mathlib.Core.Path.{_≡_, refl, sym, subst, _∙_}
 use native.Mathlib.Decide.{decLe}
 use native.Mathlib.Omega.{arith}
 use lib.ListN.{length, getD, drop, drop-of-length-le}
@@ -11,12 +11,12 @@ use lib.Dec.{eqb}
 use borrow.Author.Tests.{eqb-true, eqb-false, ne-eqb}
 use Rattle.paper.specs.Bytes.{bytes, is, one-of, white, same}
 use Rattle.paper.specs.Form.{Element, IsMessage, root-tag, end-tag, declaration}
-use Rattle.paper.specs.Rows.{leaf, group, group-under, rows, head-of}
-use Rattle.paper.specs.Computed.Reading.{opening, opened, before, after, want, blank, closed, in-root, step, ended, run, read, root-is}
+use Rattle.paper.specs.Rows.{leaf, group, group-under, rows}
+use Rattle.paper.specs.Computed.Reading.{opening, opened, before, after, want, blank, in-root, step, ended, run, read, root-is}
 use Rattle.form.specs.Promise.{FormPromise}
 use Rattle.form_names.specs.Names.{number-in, name-number}
 use Rattle.form_scans.specs.Scans.{from, Scanned, Word, Tag, White}
-use Rattle.form.specs.Reads.{Roomy, PutDown, Whole, held-scan, held-next, close-of, ContentRead, Prologue, Root, InRoot, RootRead}
+use Rattle.form.specs.Reads.{PutDown, Whole, held-scan, ContentRead, Prologue, Root, InRoot, RootRead}
 use Rattle.form.specs.declared.Held.the-variants as held
 use Rattle.form.specs.declared.Form.the-variants.{OfTheForm, RefusedAt}
 use Rattle.form_scans.specs.declared.Scan.{Scan}

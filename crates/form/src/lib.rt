@@ -9,7 +9,7 @@ ghost use mathlib.Core.Path.{_≡_};
 ghost use mathlib.Core.Bool.{false};
 ghost use Prim.Native.Nat.{_+_, _*_, _%_, _≤_, _<_};
 ghost use Rattle.paper.specs.Computed.Reading.{opening, before};
-ghost use lib.ListN.{length, getD, take, drop};
+ghost use lib.ListN.{length, getD};
 ghost use Rattle.paper.specs.Bytes.{white};
 ghost use Rattle.form_ranks.specs.Ranks.{RanksAre};
 ghost use Rattle.form_names.specs.Names.{NamesAre, name-number};

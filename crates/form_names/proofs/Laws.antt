@@ -3,7 +3,6 @@ use Prim.Native.Nat.{ℕ, zero, suc, _+_, _*_, _-_, _%_, _≤_, _<_}
 use mathlib.Core.List.{List, [], _∷_}
 use mathlib.Core.Bool.{Bool, true, false, _&&_, false≢true}
 use mathlib.Core.Path.{_≡_, refl, sym, ap, _∙_}
-use mathlib.Core.Logic.{_⊎_, inl, inr, ⊎-elim}
 use native.Mathlib.Numerals.{add-one, unary-clauses}
 use native.Mathlib.Omega.{arith}
 use lib.ListN.{length, getD, take, drop, drop-of-length-le}
@@ -12,7 +11,7 @@ use lib.Dec.{eqb, leb}
 use borrow.Author.Tests.{lt-ltb, le-ltb, eqb-true, eqb-false, eq-eqb, ne-eqb, leb-true, le-leb}
 use Rattle.paper.specs.Bytes.{if_then_else_, bytes, same}
 use Rattle.paper.specs.Rows.{Row, leaf, group, group-under, rows, name-in, name}
-use Rattle.paper.proofs.Laws.{both-left, both-right, same-says, same-tests, same-differs}
+use Rattle.paper.proofs.Laws.{both-left, both-right, same-says, same-tests}
 use Rattle.form_names.specs.Names.{number-in, name-number, is-row, slot-of, length-in, number-of, name-of, NamesAre}
 
 -- What stands in the table from a place on, compared with a name from place k on.

@@ -30,7 +30,6 @@ use Rattle.move_pairs.specs.Pairs.{InOrder, pairs-say}
 use Rattle.move_lists.specs.declared.Listed.{Listed}
 use Rattle.move_lists.specs.declared.Listed.the-variants.{NotOfTheForm, Ordinals}
 use Rattle.move_pairs.specs.declared.Paired.{Paired}
-use Rattle.move_pairs.specs.declared.Paired.the-variants as paired
 use Rattle.move_regrouping.specs.Promises.{RegroupPromise}
 use Rattle.verdict_stages.specs.Decided.{Placed, Decided, decided-refused, decided-accepted}
 

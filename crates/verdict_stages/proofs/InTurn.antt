@@ -10,7 +10,7 @@ use Rattle.paper.specs.Form.{Element}
 use Rattle.paper.specs.Computed.Reading.{read, root-is, stops-at}
 use Rattle.paper.specs.Rows.{rows}
 use Rattle.paper.specs.Payments.{blocks, payments, total}
-use Rattle.paper.specs.Refusals.{Refusal, refuse, _or-else_, size-refusal, refused-as, accepted-with, unless-refused, of-reading, outcome-alone, answer-to, tree-refusal, rows-refusal, limits-refusal, values-refusal, usage-refusal, ids-refusal, total-refusal, counts-refusal}
+use Rattle.paper.specs.Refusals.{Refusal, refuse, _or-else_, size-refusal, refused-as, accepted-with, unless-refused, of-reading, outcome-alone, answer-to, tree-refusal, rows-refusal, limits-refusal, values-refusal, total-refusal, counts-refusal}
 use Rattle.paper.specs.Answers.{refusal-of, numbered, refusal-found, verdict-says}
 use Rattle.verdict_answers.proofs.Agreement.{one-verdict}
 use Rattle.paper.specs.declared.Fault.{Fault}

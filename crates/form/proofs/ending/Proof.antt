@@ -1,14 +1,9 @@
 use Rattle.form.specs.Reads.{HeldAt}
-use native.Mathlib.Omega.{arith}
-use mathlib.Core.Path.{_≡_, refl, sym, ap, subst, _∙_}
+use mathlib.Core.Path.{refl}
 use Rattle.form.proofs.ContentLaws.{behind-children, white-alone, any-text, values-alone}
 use borrow.Author.Needs.{needs}
 use Rattle.form.proofs.ending.Statement.{statement}
 use Rattle.form.proofs.ending.Tie as tie
-use Rattle.form.proofs.ending.Reads as reads
-use Rattle.form.proofs.ending.Lts as lts
-use Rattle.form_scans.proofs.text_end.Reads as text-end-reads
-use Rattle.form_scans.proofs.value_end.Reads as value-end-reads
 
 returns : tie.Need-returns
 unfolding HeldAt

@@ -4,11 +4,6 @@ use Rattle.form.proofs.RootLaws.{refused, accepted, trailing}
 use borrow.Author.Needs.{needs}
 use Rattle.form.proofs.form_of.Statement.{statement}
 use Rattle.form.proofs.form_of.Tie as tie
-use Rattle.form.proofs.form_of.Reads as reads
-use Rattle.form.proofs.form_of.Lts as lts
-use Rattle.form.proofs.root.Reads as root-reads
-use Rattle.form_ranks.proofs.ranks.Reads as ranks-reads
-use Rattle.form_scans.proofs.white_end.Reads as white-end-reads
 
 ranks-requires : tie.Need-ranks-requires
 ranks-requires c κs = search needs

@@ -1,5 +1,4 @@
-use native.Mathlib.Omega.{arith}
-use mathlib.Core.Path.{_≡_, refl, sym, ap, subst, _∙_}
+use mathlib.Core.Path.{refl, _∙_}
 use Rattle.paper.specs.Bytes.{bytes}
 use Rattle.form.proofs.ElementLaws.{as-held}
 use Rattle.form.proofs.Numbering.{put-kept}
@@ -7,12 +6,6 @@ use Rattle.form.proofs.RootLaws.{in-root-stops, root-end-stops, in-root
 use borrow.Author.Needs.{needs}
 use Rattle.form.proofs.in_root.Statement.{statement}
 use Rattle.form.proofs.in_root.Tie as tie
-use Rattle.form.proofs.in_root.Reads as reads
-use Rattle.form.proofs.in_root.Lts as lts
-use Rattle.form.proofs.content.Reads as content-reads
-use Rattle.form.proofs.put_down.Reads as put-down-reads
-use Rattle.form_names.proofs.names.Reads as names-reads
-use Rattle.form_scans.proofs.end_tag.Reads as end-tag-reads
 
 names-requires : tie.Need-names-requires
 names-requires c κs = search needs

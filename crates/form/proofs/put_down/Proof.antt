@@ -1,12 +1,9 @@
 use native.Mathlib.Omega.{arith}
-use mathlib.Core.Path.{_≡_, refl, sym, ap, subst, _∙_}
+use mathlib.Core.Path.{refl}
 use Rattle.form.proofs.Numbering.{put-same}
 use borrow.Author.Needs.{needs}
 use Rattle.form.proofs.put_down.Statement.{statement}
 use Rattle.form.proofs.put_down.Tie as tie
-use Rattle.form.proofs.put_down.Reads as reads
-use Rattle.form.proofs.put_down.Lts as lts
-use Rattle.form.proofs.narrow.Reads as narrow-reads
 
 returns : tie.Need-returns
 returns c = record { room = λ h. let a = c .if1 .taken in absurd (omega (arith, a, h)); no-room = λ _. refl }

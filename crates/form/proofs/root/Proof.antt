@@ -1,14 +1,9 @@
-use mathlib.Core.Path.{_≡_, refl, sym, ap, subst, _∙_}
+use mathlib.Core.Path.{refl}
 use Rattle.form_scans.proofs.Laws.{reached}
 use Rattle.form.proofs.RootLaws.{prologue-stops, whole-root}
 use borrow.Author.Needs.{needs}
 use Rattle.form.proofs.root.Statement.{statement}
 use Rattle.form.proofs.root.Tie as tie
-use Rattle.form.proofs.root.Reads as reads
-use Rattle.form.proofs.root.Lts as lts
-use Rattle.form.proofs.prologue.Reads as prologue-reads
-use Rattle.form.proofs.root_at.Reads as root-at-reads
-use Rattle.form_scans.proofs.white_end.Reads as white-end-reads
 
 prologue-requires : tie.Need-prologue-requires
 prologue-requires c κs = search needs

@@ -1,5 +1,4 @@
-use native.Mathlib.Omega.{arith}
-use mathlib.Core.Path.{_≡_, refl, sym, ap, subst, _∙_}
+use mathlib.Core.Path.{refl}
 use Rattle.paper.specs.Bytes.{bytes}
 use Rattle.paper.specs.Form.{root-tag}
 use Rattle.form_scans.proofs.Laws.{reached}
@@ -8,9 +7,6 @@ use borrow.Author.Needs.{needs}
 use Rattle.form.proofs.root_at.Statement.{statement}
 use Rattle.form.proofs.root_at.Tie as tie
 use Rattle.form.proofs.root_at.Reads as reads
-use Rattle.form.proofs.root_at.Lts as lts
-use Rattle.form.proofs.in_root.Reads as in-root-reads
-use Rattle.form_scans.proofs.word.Reads as word-reads
 
 slice-aggregate-word : tie.Need-slice-aggregate-word
 slice-aggregate-word c = search needs

@@ -5,8 +5,6 @@ use Rattle.form_names.specs.Names.{number-in, name-number, slot-of}
 use Rattle.form_names.proofs.Laws.{each-number, slot-right, row-there, table-right, names-are}
 use Rattle.form_names.proofs.names.Statement.{statement}
 use Rattle.form_names.proofs.names.Tie as tie
-use Rattle.form_names.proofs.names.Reads as reads
-use Rattle.form_names.proofs.names.Lts as lts
 
 returns : tie.Need-returns
 unfolding table-right each-number slot-right row-there name-number number-in slot-of name rows group same name-in bytes leaf group-under

@@ -1,15 +1,10 @@
 use borrow.Author.Needs.{needs}
 use native.Mathlib.Omega.{arith}
 use borrow.Author.Tests.{not-true, not-false}
-use mathlib.Core.Path.{_≡_, sym, _∙_}
+use mathlib.Core.Path.{sym, _∙_}
 use Rattle.form_names.proofs.Laws.{not-so-long, wrong-length, wrong-name, right-name}
 use Rattle.form_names.proofs.number_of.Statement.{statement}
 use Rattle.form_names.proofs.number_of.Tie as tie
-use Rattle.form_names.proofs.number_of.Reads as reads
-use Rattle.form_names.proofs.number_of.Lts as lts
-use Rattle.form_names.proofs.slot.Reads as slot-reads
-use Rattle.form_names.proofs.stands.Reads as stands-reads
-use Rattle.form_names.proofs.wide.Reads as wide-reads
 
 returns : tie.Need-returns
 returns c n = not-so-long (c .before .before .args .w .now) (λ l u. let h = c .if1 .taken in omega (arith, l, h))

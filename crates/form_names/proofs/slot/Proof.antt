@@ -4,9 +4,6 @@ use native.Mathlib.Omega.{arith}
 use Rattle.form_names.proofs.Laws.{slot-short, slot-long}
 use Rattle.form_names.proofs.slot.Statement.{statement}
 use Rattle.form_names.proofs.slot.Tie as tie
-use Rattle.form_names.proofs.slot.Reads as reads
-use Rattle.form_names.proofs.slot.Lts as lts
-use Rattle.form_names.proofs.wide.Reads as wide-reads
 
 mul-result : tie.Need-mul-result
 mul-result c = search needs

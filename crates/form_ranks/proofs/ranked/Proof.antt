@@ -1,5 +1,4 @@
 use borrow.Author.Needs.{needs}
-use mathlib.Core.Path.{sym, _∙_}
 use borrow.Author.Tests.{le-leb, lt-leb}
 use Rattle.paper.specs.Values.{lies-from}
 use Rattle.form_ranks.proofs.ranked.Statement.{statement}

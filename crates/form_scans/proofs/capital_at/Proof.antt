@@ -1,14 +1,11 @@
 use native.Mathlib.Omega.{arith}
-use mathlib.Core.Path.{_≡_, refl, sym, ap, subst, _∙_}
+use mathlib.Core.Path.{sym, ap, _∙_}
 use mathlib.Core.Bool.{false≢true}
 use lib.Dec.{leb}
 use Rattle.form_ranks.proofs.Classes.{capital-from}
 use borrow.Author.Needs.{needs}
 use Rattle.form_scans.proofs.capital_at.Statement.{statement}
 use Rattle.form_scans.proofs.capital_at.Tie as tie
-use Rattle.form_scans.proofs.capital_at.Reads as reads
-use Rattle.form_scans.proofs.capital_at.Lts as lts
-use Rattle.form_ranks.proofs.rank.Reads as rank-reads
 
 returns : tie.Need-returns
 returns c = λ n. record { there = λ e. absurd (false≢true e); not-there = λ _ h. let a = c .if1 .taken in absurd (omega (arith, a, h)) }

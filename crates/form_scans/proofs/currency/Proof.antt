@@ -5,9 +5,6 @@ use borrow.Author.Needs.{needs}
 use Rattle.form_scans.proofs.currency.Statement.{statement}
 use Rattle.form_scans.proofs.currency.Tie as tie
 use Rattle.form_scans.proofs.currency.Reads as reads
-use Rattle.form_scans.proofs.currency.Lts as lts
-use Rattle.form_scans.proofs.three_capitals.Reads as three-capitals-reads
-use Rattle.form_scans.proofs.word.Reads as word-reads
 
 slice-aggregate-word : tie.Need-slice-aggregate-word
 slice-aggregate-word c = search needs

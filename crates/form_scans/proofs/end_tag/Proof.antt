@@ -6,8 +6,6 @@ use borrow.Author.Needs.{needs}
 use Rattle.form_scans.proofs.end_tag.Statement.{statement}
 use Rattle.form_scans.proofs.end_tag.Tie as tie
 use Rattle.form_scans.proofs.end_tag.Reads as reads
-use Rattle.form_scans.proofs.end_tag.Lts as lts
-use Rattle.form_scans.proofs.word.Reads as word-reads
 
 slice-aggregate-word : tie.Need-slice-aggregate-word
 slice-aggregate-word c = search needs

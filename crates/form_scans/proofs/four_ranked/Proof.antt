@@ -8,9 +8,6 @@ use Rattle.form_ranks.specs.Ranks.{rank}
 use Rattle.form_scans.proofs.Laws.{of-four}
 use Rattle.form_scans.proofs.four_ranked.Statement.{statement}
 use Rattle.form_scans.proofs.four_ranked.Tie as tie
-use Rattle.form_scans.proofs.four_ranked.Reads as reads
-use Rattle.form_scans.proofs.four_ranked.Lts as lts
-use Rattle.form_ranks.proofs.ranked.Reads as ranked-reads
 
 sub-if1 : tie.Need-sub-if1
 sub-if1 c = search needs

@@ -5,9 +5,6 @@ use Rattle.paper.specs.Bytes.{letter-or-digit}
 use Rattle.form_scans.proofs.Laws.{name-run, name-class}
 use Rattle.form_scans.proofs.name_end.Statement.{statement}
 use Rattle.form_scans.proofs.name_end.Tie as tie
-use Rattle.form_scans.proofs.name_end.Reads as reads
-use Rattle.form_scans.proofs.name_end.Lts as lts
-use Rattle.form_scans.proofs.run_end.Reads as run-end-reads
 
 returns : tie.Need-returns
 returns c = λ n h. let a = c .if1 .taken in absurd (omega (arith, a, h))

@@ -11,10 +11,6 @@ use Rattle.form_scans.specs.Scans.{Ranked}
 use Rattle.form_scans.proofs.Laws.{one-further, and-then}
 use Rattle.form_scans.proofs.run_end.Statement.{statement}
 use Rattle.form_scans.proofs.run_end.Tie as tie
-use Rattle.form_scans.proofs.run_end.Reads as reads
-use Rattle.form_scans.proofs.run_end.Lts as lts
-use Rattle.form_ranks.proofs.ranked.Reads as ranked-reads
-use Rattle.form_scans.proofs.four_ranked.Reads as four-ranked-reads
 
 abbrev Inv-loop : tie.InvT-loop
 Inv-loop s ranks at stop low high i₀ i = (at ≤ i) × (i ≤ stop) × (stop ≤ length s) × (RanksAre ranks → Ranked s at i low high)

@@ -1,13 +1,10 @@
 use native.Mathlib.Omega.{arith}
-use mathlib.Core.Path.{_≡_, _∙_}
+use mathlib.Core.Path.{_∙_}
 use borrow.Author.Tests.{eq-eqb, ne-eqb}
 use Rattle.form_scans.proofs.TagLaws.{tag-stops, tag-closes, tag-amount, of-amount, amount-at}
 use borrow.Author.Needs.{needs}
 use Rattle.form_scans.proofs.tag_end.Statement.{statement}
 use Rattle.form_scans.proofs.tag_end.Tie as tie
-use Rattle.form_scans.proofs.tag_end.Reads as reads
-use Rattle.form_scans.proofs.tag_end.Lts as lts
-use Rattle.form_scans.proofs.currency.Reads as currency-reads
 
 returns : tie.Need-returns
 returns c = λ n h e name depth lt room f g. let a = c .if1 .taken in absurd (omega (arith, a, h))

@@ -4,9 +4,6 @@ use Rattle.paper.specs.Bytes.{text-byte}
 use Rattle.form_scans.proofs.Laws.{along-run, text-class}
 use Rattle.form_scans.proofs.text_end.Statement.{statement}
 use Rattle.form_scans.proofs.text_end.Tie as tie
-use Rattle.form_scans.proofs.text_end.Reads as reads
-use Rattle.form_scans.proofs.text_end.Lts as lts
-use Rattle.form_scans.proofs.run_end.Reads as run-end-reads
 
 returns : tie.Need-returns
 returns c = λ n h. let a = c .if1 .taken in absurd (omega (arith, a, h))

@@ -3,9 +3,6 @@ use Rattle.form_scans.proofs.TagLaws.{three-read, first-missing, second
 use borrow.Author.Needs.{needs}
 use Rattle.form_scans.proofs.three_capitals.Statement.{statement}
 use Rattle.form_scans.proofs.three_capitals.Tie as tie
-use Rattle.form_scans.proofs.three_capitals.Reads as reads
-use Rattle.form_scans.proofs.three_capitals.Lts as lts
-use Rattle.form_scans.proofs.capital_at.Reads as capital-at-reads
 
 capital-at-requires : tie.Need-capital-at-requires
 capital-at-requires c κs = search needs

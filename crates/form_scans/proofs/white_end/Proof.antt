@@ -5,9 +5,6 @@ use Rattle.form_ranks.proofs.Classes.{white-from}
 use Rattle.form_scans.proofs.Laws.{white-run}
 use Rattle.form_scans.proofs.white_end.Statement.{statement}
 use Rattle.form_scans.proofs.white_end.Tie as tie
-use Rattle.form_scans.proofs.white_end.Reads as reads
-use Rattle.form_scans.proofs.white_end.Lts as lts
-use Rattle.form_scans.proofs.run_end.Reads as run-end-reads
 
 returns : tie.Need-returns
 returns c = λ n h. let a = c .if1 .taken in absurd (omega (arith, a, h))

@@ -2,10 +2,6 @@ use mathlib.Core.Path.{_∙_}
 use borrow.Author.Needs.{needs}
 use Rattle.host.proofs.glowenzo_regroup.Statement.{statement}
 use Rattle.host.proofs.glowenzo_regroup.Tie as tie
-use Rattle.host.proofs.glowenzo_regroup.Reads as reads
-use Rattle.host.proofs.glowenzo_regroup.Lts as lts
-use Rattle.verdict_answers.proofs.of_regrouping.Reads as of-regrouping-reads
-use Rattle.move_regrouping.proofs.regroup.Reads as regroup-reads
 
 regroup-requires : tie.Need-regroup-requires
 regroup-requires c κs = search needs

@@ -6,11 +6,6 @@ use Rattle.host.proofs.Laws.{too-short, room, refused-bytes, accepted-b
 use borrow.Author.Needs.{needs}
 use Rattle.host.proofs.glowenzo_verdict.Statement.{statement}
 use Rattle.host.proofs.glowenzo_verdict.Tie as tie
-use Rattle.host.proofs.glowenzo_verdict.Reads as reads
-use Rattle.host.proofs.glowenzo_verdict.Lts as lts
-use Rattle.verdict_answers.proofs.of_message.Reads as of-message-reads
-use Rattle.host.proofs.write.Reads as write-reads
-use Rattle.verdict_reader.proofs.verdict.Reads as verdict-reads
 
 of-message-requires : tie.Need-of-message-requires
 of-message-requires c κs = search needs

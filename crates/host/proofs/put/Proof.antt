@@ -6,8 +6,6 @@ use Rattle.host.proofs.Laws.{room-1, room-2, room-3, four-put}
 use borrow.Author.Needs.{needs}
 use Rattle.host.proofs.put.Statement.{statement}
 use Rattle.host.proofs.put.Tie as tie
-use Rattle.host.proofs.put.Reads as reads
-use Rattle.host.proofs.put.Lts as lts
 
 returns : tie.Need-returns
 returns c = λ h. absurd (omega arith)

@@ -7,9 +7,6 @@ use lib.ListN.{length}
 use Rattle.host.proofs.Laws.{Written, none-written, one-written, all-written}
 use Rattle.host.proofs.write.Statement.{statement}
 use Rattle.host.proofs.write.Tie as tie
-use Rattle.host.proofs.write.Reads as reads
-use Rattle.host.proofs.write.Lts as lts
-use Rattle.host.proofs.put.Reads as put-reads
 
 abbrev Inv-loop : tie.InvT-loop
 Inv-loop numbers many table₀ i₀ table i =

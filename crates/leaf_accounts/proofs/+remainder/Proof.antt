@@ -1,6 +1,6 @@
 use native.Mathlib.Omega.{arith}
 use Prim.Native.Nat.{ℕ, _-_, _<_}
-use mathlib.Core.Path.{refl, sym, _∙_}
+use mathlib.Core.Path.{sym, _∙_}
 use lib.ListN.{length, drop, length-take, length-drop}
 use Rattle.leaf_accounts.proofs.Account.{remainder-goes, remainder-goes-by-four, remainder-ends}
 use borrow.Fn.Kinds.{In}

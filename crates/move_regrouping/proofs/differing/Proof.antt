@@ -4,10 +4,6 @@ use mathlib.Core.Path.{refl}
 use borrow.Author.Needs.{needs}
 use Rattle.move_regrouping.proofs.differing.Statement.{statement}
 use Rattle.move_regrouping.proofs.differing.Tie as tie
-use Rattle.move_regrouping.proofs.differing.Reads as reads
-use Rattle.move_regrouping.proofs.differing.Lts as lts
-use Rattle.move_regrouping.proofs.regroup.Reads as regroup-reads
-use Rattle.verdict_reader.proofs.field.Reads as field-reads
 
 regroup-requires : tie.Need-regroup-requires
 regroup-requires c κs = search needs

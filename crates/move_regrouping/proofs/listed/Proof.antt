@@ -3,11 +3,6 @@ use denote.Ref.{now}
 use borrow.Author.Needs.{needs}
 use Rattle.move_regrouping.proofs.listed.Statement.{statement}
 use Rattle.move_regrouping.proofs.listed.Tie as tie
-use Rattle.move_regrouping.proofs.listed.Reads as reads
-use Rattle.move_regrouping.proofs.listed.Lts as lts
-use Rattle.move_lists.proofs.ordinals.Reads as ordinals-reads
-use Rattle.move_pairs.proofs.pairing.Reads as pairing-reads
-use Rattle.move_regrouping.proofs.paired_as.Reads as paired-as-reads
 
 returns : tie.Need-returns
 returns c = λ root1 root2 i j. numbers-differ (now (c .before .before .before .before .args .list)) i j (c .if1 .taken)

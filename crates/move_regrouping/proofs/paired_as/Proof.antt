@@ -4,8 +4,6 @@ use Rattle.move_pairs.specs.Pairs.{pairs-say}
 use borrow.Author.Needs.{needs}
 use Rattle.move_regrouping.proofs.paired_as.Statement.{statement}
 use Rattle.move_regrouping.proofs.paired_as.Tie as tie
-use Rattle.move_regrouping.proofs.paired_as.Reads as reads
-use Rattle.move_regrouping.proofs.paired_as.Lts as lts
 
 enum-told : tie.Need-enum-told
 enum-told c = search needs

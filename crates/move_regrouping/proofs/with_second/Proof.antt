@@ -6,10 +6,6 @@ use denote.Ref.{now}
 use borrow.Author.Needs.{needs}
 use Rattle.move_regrouping.proofs.with_second.Statement.{statement}
 use Rattle.move_regrouping.proofs.with_second.Tie as tie
-use Rattle.move_regrouping.proofs.with_second.Reads as reads
-use Rattle.move_regrouping.proofs.with_second.Lts as lts
-use Rattle.move_regrouping.proofs.listed.Reads as listed-reads
-use Rattle.verdict_stages.proofs.outcome.Reads as outcome-reads
 
 outcome-requires : tie.Need-outcome-requires
 outcome-requires c κs = search needs

@@ -6,9 +6,6 @@ use Prim.Native.Nat.{_-_, _≤_}
 use borrow.Author.Needs.{needs}
 use Rattle.run_form.proofs.early.Statement.{statement}
 use Rattle.run_form.proofs.early.Tie as tie
-use Rattle.run_form.proofs.early.Reads as reads
-use Rattle.run_form.proofs.early.Lts as lts
-use Rattle.run_form.proofs.ends_early.Reads as ends-early-reads
 
 abbrev Inv-loop : tie.InvT-loop
 Inv-loop s tree₀ n₀ k₀ tree n k = n ≤ k

@@ -2,9 +2,6 @@
 use borrow.Author.Needs.{needs}
 use Rattle.run_form.proofs.run.Statement.{statement}
 use Rattle.run_form.proofs.run.Tie as tie
-use Rattle.run_form.proofs.run.Reads as reads
-use Rattle.run_form.proofs.run.Lts as lts
-use Rattle.run_form.proofs.case_at.Reads as case-at-reads
 
 abbrev Inv-loop : tie.InvT-loop
 Inv-loop s tree₀ at₀ turns₀ tree at turns = Unit {0}

@@ -1,8 +1,6 @@
 use Rattle.tree.proofs.Laws.{its-own, row-14, row-15, row-21, row-25, row-33, row-35}
 use Rattle.tree.proofs.name_of.Statement.{statement}
 use Rattle.tree.proofs.name_of.Tie as tie
-use Rattle.tree.proofs.name_of.Reads as reads
-use Rattle.tree.proofs.name_of.Lts as lts
 
 returns : tie.Need-returns
 returns c _ = rw (c .match .keys1) row-14

@@ -2,9 +2,6 @@ use Prim.Native.Nat.{_≤_, _-_}
 use borrow.Author.Needs.{needs}
 use Rattle.verdict.proofs.each_payment.Statement.{statement}
 use Rattle.verdict.proofs.each_payment.Tie as tie
-use Rattle.verdict.proofs.each_payment.Reads as reads
-use Rattle.verdict.proofs.each_payment.Lts as lts
-use Rattle.verdict.proofs.payment.Reads as payment-reads
 
 abbrev Inv-loop : tie.InvT-loop
 Inv-loop message table payments i₀ i = i ≤ payments

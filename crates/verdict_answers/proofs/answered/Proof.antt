@@ -3,8 +3,6 @@ use Rattle.paper.specs.Regrouping.{answered}
 use Rattle.verdict_answers.specs.Numbers.{as-regrouping-answer}
 use Rattle.verdict_answers.proofs.answered.Statement.{statement}
 use Rattle.verdict_answers.proofs.answered.Tie as tie
-use Rattle.verdict_answers.proofs.answered.Reads as reads
-use Rattle.verdict_answers.proofs.answered.Lts as lts
 
 returns : tie.Need-returns
 unfolding as-regrouping-answer answered

@@ -3,9 +3,6 @@ use Rattle.verdict_answers.proofs.Laws.{message-answer, accepted-answer
 use borrow.Author.Needs.{needs}
 use Rattle.verdict_answers.proofs.of_message.Statement.{statement}
 use Rattle.verdict_answers.proofs.of_message.Tie as tie
-use Rattle.verdict_answers.proofs.of_message.Reads as reads
-use Rattle.verdict_answers.proofs.of_message.Lts as lts
-use Rattle.verdict_answers.proofs.refusal_of.Reads as refusal-of-reads
 
 enum-known-verdict : tie.Need-enum-known-verdict
 enum-known-verdict c = search needs

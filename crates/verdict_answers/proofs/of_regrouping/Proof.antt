@@ -4,10 +4,6 @@ use Rattle.verdict_answers.proofs.Laws.{as-answered}
 use borrow.Author.Needs.{needs}
 use Rattle.verdict_answers.proofs.of_regrouping.Statement.{statement}
 use Rattle.verdict_answers.proofs.of_regrouping.Tie as tie
-use Rattle.verdict_answers.proofs.of_regrouping.Reads as reads
-use Rattle.verdict_answers.proofs.of_regrouping.Lts as lts
-use Rattle.verdict_answers.proofs.answered.Reads as answered-reads
-use Rattle.verdict_answers.proofs.refused_of.Reads as refused-of-reads
 
 enum-told : tie.Need-enum-told
 enum-told c = search needs

@@ -4,9 +4,6 @@ use Rattle.verdict_answers.proofs.Laws.{numbers}
 use borrow.Author.Needs.{needs}
 use Rattle.verdict_answers.proofs.refusal_of.Statement.{statement}
 use Rattle.verdict_answers.proofs.refusal_of.Tie as tie
-use Rattle.verdict_answers.proofs.refusal_of.Reads as reads
-use Rattle.verdict_answers.proofs.refusal_of.Lts as lts
-use Rattle.verdict_answers.proofs.at.Reads as at-reads
 
 enum-told : tie.Need-enum-told
 enum-told c = search needs

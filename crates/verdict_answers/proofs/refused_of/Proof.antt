@@ -3,9 +3,6 @@ use Rattle.verdict_answers.proofs.Laws.{whose-answer}
 use borrow.Author.Needs.{needs}
 use Rattle.verdict_answers.proofs.refused_of.Statement.{statement}
 use Rattle.verdict_answers.proofs.refused_of.Tie as tie
-use Rattle.verdict_answers.proofs.refused_of.Reads as reads
-use Rattle.verdict_answers.proofs.refused_of.Lts as lts
-use Rattle.verdict_answers.proofs.refusal_of.Reads as refusal-of-reads
 
 refusal-of-requires : tie.Need-refusal-of-requires
 refusal-of-requires c κs = search needs

@@ -6,10 +6,6 @@ use native.Mathlib.Omega.{arith}
 use borrow.Author.Needs.{needs}
 use Rattle.verdict_reader.proofs.field.Statement.{statement}
 use Rattle.verdict_reader.proofs.field.Tie as tie
-use Rattle.verdict_reader.proofs.field.Reads as reads
-use Rattle.verdict_reader.proofs.field.Lts as lts
-use Rattle.verdict_parts.proofs.field_in.Reads as field-in-reads
-use Rattle.verdict_stages.proofs.outcome.Reads as outcome-reads
 
 outcome-requires : tie.Need-outcome-requires
 outcome-requires c κs = search needs

@@ -6,10 +6,6 @@ use native.Mathlib.Omega.{arith}
 use borrow.Author.Needs.{needs}
 use Rattle.verdict_reader.proofs.verdict.Statement.{statement}
 use Rattle.verdict_reader.proofs.verdict.Tie as tie
-use Rattle.verdict_reader.proofs.verdict.Reads as reads
-use Rattle.verdict_reader.proofs.verdict.Lts as lts
-use Rattle.verdict_stages.proofs.outcome.Reads as outcome-reads
-use Rattle.verdict_table.proofs.fill.Reads as fill-reads
 
 returns : tie.Need-returns
 returns c = too-short (now (c .before .before .before .args .message)) (now (c .before .before .before .args .table)) (c .if1 .taken)

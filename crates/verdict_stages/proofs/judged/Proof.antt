@@ -2,11 +2,6 @@ use Rattle.verdict_stages.proofs.InTurn.{first-refuses, later-passes, n
 use borrow.Author.Needs.{needs}
 use Rattle.verdict_stages.proofs.judged.Statement.{statement}
 use Rattle.verdict_stages.proofs.judged.Tie as tie
-use Rattle.verdict_stages.proofs.judged.Reads as reads
-use Rattle.verdict_stages.proofs.judged.Lts as lts
-use Rattle.rule_ids.proofs.ids_refusal.Reads as ids-refusal-reads
-use Rattle.rule_usage.proofs.usage_refusal.Reads as usage-refusal-reads
-use Rattle.verdict_stages.proofs.sums.Reads as sums-reads
 
 enum-known-values : tie.Need-enum-known-values
 enum-known-values c = search needs

@@ -1,12 +1,7 @@
-use native.Mathlib.Omega.{arith}
 use Rattle.verdict_stages.proofs.InTurn.{limits-refused, limits-passed, few-payments, few-blocks}
 use borrow.Author.Needs.{needs}
 use Rattle.verdict_stages.proofs.limited.Statement.{statement}
 use Rattle.verdict_stages.proofs.limited.Tie as tie
-use Rattle.verdict_stages.proofs.limited.Reads as reads
-use Rattle.verdict_stages.proofs.limited.Lts as lts
-use Rattle.rule_limits.proofs.limits_refusal.Reads as limits-refusal-reads
-use Rattle.verdict_stages.proofs.judged.Reads as judged-reads
 
 limits-refusal-requires : tie.Need-limits-refusal-requires
 limits-refusal-requires c κs = search needs

@@ -4,9 +4,6 @@ use borrow.Author.Tests.{ltb-true}
 use borrow.Author.Needs.{needs}
 use Rattle.verdict_stages.proofs.of_rows.Statement.{statement}
 use Rattle.verdict_stages.proofs.of_rows.Tie as tie
-use Rattle.verdict_stages.proofs.of_rows.Reads as reads
-use Rattle.verdict_stages.proofs.of_rows.Lts as lts
-use Rattle.verdict_answers.proofs.refusal_of.Reads as refusal-of-reads
 
 refusal-of-requires : tie.Need-refusal-of-requires
 refusal-of-requires c κs = search needs

@@ -1,12 +1,7 @@
-use native.Mathlib.Omega.{arith}
 use Rattle.verdict_stages.proofs.InTurn.{too-long, form-refuses, form-passes}
 use borrow.Author.Needs.{needs}
 use Rattle.verdict_stages.proofs.outcome.Statement.{statement}
 use Rattle.verdict_stages.proofs.outcome.Tie as tie
-use Rattle.verdict_stages.proofs.outcome.Reads as reads
-use Rattle.verdict_stages.proofs.outcome.Lts as lts
-use Rattle.form.proofs.form_of.Reads as form-of-reads
-use Rattle.verdict_stages.proofs.stages.Reads as stages-reads
 
 returns : tie.Need-returns
 returns c = λ _ _. too-long (c .if1 .taken)

@@ -2,15 +2,9 @@ use Rattle.verdict_stages.proofs.InTurn.{rows-refused, rows-refused-fir
 use Rattle.paper_acceptance.proofs.OneWalk.{rows-too}
 use Rattle.paper.specs.Rows.{rows}
 use Rattle.rows.specs.Walk.{refusal-by}
-use native.Mathlib.Omega.{arith}
 use borrow.Author.Needs.{needs}
 use Rattle.verdict_stages.proofs.stages.Statement.{statement}
 use Rattle.verdict_stages.proofs.stages.Tie as tie
-use Rattle.verdict_stages.proofs.stages.Reads as reads
-use Rattle.verdict_stages.proofs.stages.Lts as lts
-use Rattle.rows.proofs.rows_refusal.Reads as rows-refusal-reads
-use Rattle.verdict_stages.proofs.limited.Reads as limited-reads
-use Rattle.verdict_stages.proofs.of_rows.Reads as of-rows-reads
 
 rows-refusal-requires : tie.Need-rows-refusal-requires
 rows-refusal-requires c κs = search needs

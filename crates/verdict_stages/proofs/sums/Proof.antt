@@ -3,10 +3,6 @@ use Rattle.verdict_stages.proofs.InTurn.{total-refused, counts-refused,
 use borrow.Author.Needs.{needs}
 use Rattle.verdict_stages.proofs.sums.Statement.{statement}
 use Rattle.verdict_stages.proofs.sums.Tie as tie
-use Rattle.verdict_stages.proofs.sums.Reads as reads
-use Rattle.verdict_stages.proofs.sums.Lts as lts
-use Rattle.rule_counts.proofs.counts_refusal.Reads as counts-refusal-reads
-use Rattle.rule_totals.proofs.total_refusal.Reads as total-refusal-reads
 
 total-refusal-requires : tie.Need-total-refusal-requires
 total-refusal-requires c κs = search needs
