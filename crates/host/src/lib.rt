@@ -11,6 +11,9 @@ ghost use Rattle.paper.specs.Bytes.{each};
 ghost use Rattle.paper.specs.Host.{four-bytes};
 ghost use Rattle.host.specs.Promises.{HostVerdictPromise, HostRegroupPromise};
 
+// The bytes of the least table.
+const LEAST_BYTES: usize = 4 * paper::LEAST_TABLE;
+
 // A number as four bytes at a place of the table, where it has them.
 fn put(table: &mut [u8], at: usize, n: u32)
     ensures { λ _. ⌜ (at + 4 ≤ length (now (table .entry)) → now (table .exit) ≡ take at (now (table .entry)) ++ (four-bytes n ++ drop (at + 4) (now (table .entry)))) ⌝ }
@@ -47,10 +50,10 @@ fn write(numbers: &[u32], many: usize, table: &mut [u8])
 pub extern "C" fn glowenzo_verdict(message: &[u8], table: &mut [u8]) -> OfMessage
     ensures { λ r. ⌜ HostVerdictPromise (now (message .entry)) (now (table .entry)) r (now (table .exit)) ⌝ }
 {
-    if table.len() < 4096 {
+    if table.len() < LEAST_BYTES {
         return verdict_answers::of_message(Verdict::Refused(Fault::TableTooShort));
     }
-    let mut numbers = [0u32; 1024];
+    let mut numbers = [0u32; paper::LEAST_TABLE];
     let found = verdict_reader::verdict(message, &mut numbers);
     match found {
         Verdict::Refused(fault) => verdict_answers::of_message(Verdict::Refused(fault)),

@@ -69,8 +69,8 @@ fn with_second(
     ensures { λ r. ⌜ ((root1 : Element) → InOrder (now (first .entry)) (now (tree1 .entry)) (now (order1 .entry)) many1 root1
         → regrouping-says r ≡ of-outcomes (accepted-with root1) (outcome-alone rows (now (second .entry))) (now (list .entry))) ⌝ }
 {
-    let mut tree2 = [0u16; 28200];
-    let mut order2 = [0u16; 208];
+    let mut tree2 = [0u16; tree::NUMBERS];
+    let mut order2 = [0u16; rule_limits::NUMBERS];
     let found = verdict_stages::outcome(second, &mut tree2, &mut order2);
     match found {
         Verdict::Refused(fault) => Regrouping::SecondRefused(fault),
@@ -98,8 +98,8 @@ fn with_second(
 pub fn regroup(first: &[u8], second: &[u8], list: &[u8]) -> Regrouping
     ensures { λ r. ⌜ RegroupPromise (now (first .entry)) (now (second .entry)) (now (list .entry)) r ⌝ }
 {
-    let mut tree1 = [0u16; 28200];
-    let mut order1 = [0u16; 208];
+    let mut tree1 = [0u16; tree::NUMBERS];
+    let mut order1 = [0u16; rule_limits::NUMBERS];
     let found = verdict_stages::outcome(first, &mut tree1, &mut order1);
     match found {
         Verdict::Refused(fault) => Regrouping::FirstRefused(fault),

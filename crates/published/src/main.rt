@@ -66,7 +66,7 @@ fn run_file(path: &[u8], buffer: &mut [u8], table: &mut [u32]) {
 
 fn main() {
     let mut buffer = io::large_buffer();
-    let mut table = [0u32; 1024];
+    let mut table = [0u32; paper::LEAST_TABLE];
     run_file(b"whole-6.1", &mut buffer, &mut table);
     run_file(b"whole-6.2", &mut buffer, &mut table);
     run_file(b"snippets", &mut buffer, &mut table);

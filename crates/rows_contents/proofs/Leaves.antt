@@ -16,7 +16,7 @@ use Rattle.paper.specs.Refusals.{Left, from-here, missing, Refusal, refuse, fir
 use Rattle.paper.proofs.Laws.{number-of, offset-of}
 use Rattle.leaf_texts.proofs.Laws.{none-first, one-first}
 use Rattle.tree.specs.Laid.{between, Entry}
-use Rattle.tree.proofs.Laws.{Cell, at-cell, start-cell, close-cell, known-cell}
+use Rattle.tree.proofs.Laws.{Cell, known-cell}
 use Rattle.rows_places.specs.Seek.{lacking}
 use Rattle.rows_places.specs.declared.Lacks.{Lacks}
 use Rattle.rows_places.specs.declared.Lacks.the-variants as lacks
@@ -34,18 +34,14 @@ module _ (left : Left) (close : ℕ) {l : Lacks} (m : lacking l ≡ missing left
   unfolding ends lacking
   ends-well q = let e : missing left ≡ none = sym (rw q at m) in rw (e, ends)
 
--- the text of an element as code reads it, and what is known of it
-module _ {s tree : List ℕ} {i next : ℕ} {h : Head} (entry : Entry s tree i h next) {start close : ℕ} {t : List ℕ} (start-is : Cell tree i 2 start)
-    (close-is : Cell tree i 3 close) (text-is : t ≡ between start close s) where
-  pub text-there : t ≡ between (h .start) (h .close) s
-  text-there = rw (start-cell entry start-is, close-cell entry close-is) at text-is
+-- what is known of the text of an element
+module _ {s tree : List ℕ} {i next : ℕ} {h : Head} (entry : Entry s tree i h next) {t : List ℕ} (text-is : t ≡ between (h .start) (h .close) s) {known : ℕ}
+    (known-is : Cell tree i 5 known) where
+  pub white-there : known ≡ 1 → Every white t
+  white-there k = rw text-is (entry .numbers .white-known (sym (known-cell entry known-is) ∙ k))
 
-  module _ {known : ℕ} (known-is : Cell tree i 5 known) where
-    pub white-there : known ≡ 1 → Every white t
-    white-there k = rw text-there (entry .numbers .white-known (sym (known-cell entry known-is) ∙ k))
-
-    pub values-there : known ≡ 3 → Every value-character t
-    values-there k = rw text-there (entry .numbers .values-known (sym (known-cell entry known-is) ∙ k))
+  pub values-there : known ≡ 3 → Every value-character t
+  values-there k = rw text-is (entry .numbers .values-known (sym (known-cell entry known-is) ∙ k))
 
 -- text in a group
 module _ (ps : List Place) (h : Head) (row : ℕ) {t w : List ℕ} {black : ℕ} (text-is : t ≡ w) (black-is : black ≡ first-not white t) where
@@ -114,23 +110,18 @@ told-any row h c EmptyOrTooLong = refl
 told-any row h c (NotInTheSet k) = refl
 told-any row h c NotAllowed = refl
 
--- a leaf in the message, judged by its text and the bytes where the currency of row 42 stands
+-- a leaf in the message, judged by its text and, where it is of row 42, its currency
 module _ {s tree : List ℕ} {i next parent row longest : ℕ} (r : Row) (h : Head) (entry : Entry s tree i h next) (row-is : r .row ≡ row)
-    (longest-is : longest-of (r .holds) ≡ longest) (named : row ≡ 42 → h .name ≡ bytes "InstdAmt") where
-  judged-text : (c : List ℕ) (j : Judgement) → c ≡ between (h .at + 15) (h .at + 18) s → Judges parent row longest c (between (h .start) (h .close) s) j
-      → leaf-refusal parent r h (between (h .start) (h .close) s) ≡ told row h j
-  judged-text c j e d = go (eqb row 42) refl
+    (longest-is : longest-of (r .holds) ≡ longest) (named : row ≡ 42 → h .name ≡ bytes "InstdAmt") {c : List ℕ} (currency-is : h .name ≡ bytes "InstdAmt" → c ≡ h .currency) where
+  judged-text : (j : Judgement) → Judges parent row longest c (between (h .start) (h .close) s) j → leaf-refusal parent r h (between (h .start) (h .close) s) ≡ told row h j
+  judged-text j d = go (eqb row 42) refl
     where
       go : (b : Bool) → eqb row 42 ≡ b → leaf-refusal parent r h (between (h .start) (h .close) s) ≡ told row h j
-      go true q = d .judged r h row-is longest-is (sym (entry .written .currency-is (named (eqb-true row 42 q))) ∙ sym e)
+      go true q = d .judged r h row-is longest-is (sym (currency-is (named (eqb-true row 42 q))))
       go false q =
           leaf-any parent r h c (between (h .start) (h .close) s) (λ f. eqb-false row 42 q (sym row-is ∙ f)) ∙
           d .judged (r) (record { name = h .name; currency = c; at = h .at; start = h .start; close = h .close }) row-is longest-is refl ∙ told-any row h c j
 
-  module _ {at start close known : ℕ} {c t : List ℕ} {j k : Judgement} (at-is : Cell tree i 0 at) (start-is : Cell tree i 2 start) (close-is : Cell tree i 3 close)
-      (known-is : Cell tree i 5 known) (currency-is : c ≡ between (at + 15) (at + 18) s) (text-is : t ≡ between start close s)
-      (judges : (known ≡ 3 → Every value-character t) → Judges parent row longest c t j) (told-as : j ≡ k) where
-    pub judged-as : leaf-refusal parent r h (between (h .start) (h .close) s) ≡ told row h k
-    judged-as =
-        let currency-there : c ≡ between (h .at + 15) (h .at + 18) s = rw (at-cell entry at-is) at currency-is in
-        judged-text c k currency-there (rw (text-there entry start-is close-is text-is, told-as) at (judges (values-there entry start-is close-is text-is known-is)))
+  pub judged-as : {known : ℕ} {t : List ℕ} {j k : Judgement} → Cell tree i 5 known → t ≡ between (h .start) (h .close) s
+      → ((known ≡ 3 → Every value-character t) → Judges parent row longest c t j) → j ≡ k → leaf-refusal parent r h (between (h .start) (h .close) s) ≡ told row h k
+  judged-as {k = k} known-is text-is judges told-as = judged-text k (rw (text-is, told-as) at (judges (values-there entry text-is known-is)))

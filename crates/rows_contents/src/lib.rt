@@ -64,11 +64,10 @@ pub fn text_in_group(
         ≡ only-white (of-entry (now (rows .entry)) e 0) (places-of (now (rows .entry)) (now (places .entry)) e) h (between (h .start) (h .close) (now (s .entry)))) ⌝ }
 {
     let start = tree::cell(tree, i, 2);
-    let close = tree::cell(tree, i, 3);
     if s.len() < start {
         return Finding::Nothing;
     }
-    let text = rows_places::part(s, start, close);
+    let text = tree_leaves::held(s, tree, i);
     let black = first_black(text, tree::cell(tree, i, 5));
     if black < text.len() {
         return Finding::Refused(Fault::NotAllowedThere {
@@ -78,7 +77,7 @@ pub fn text_in_group(
     }
     let from = rows_places::of_entry(rows, e, 4);
     let to = rows_places::of_entry(rows, e, 5);
-    ended(rows, places, from, false, to, close)
+    ended(rows, places, from, false, to, tree::cell(tree, i, 3))
 }
 
 // Refusal 7, so far behind the start of the leaf's text.
@@ -97,23 +96,17 @@ fn outside(s: &[u8], row: usize, start: usize, behind: usize) -> Finding
     })
 }
 
-// 6 to 8 at element i as a leaf of this row. The currency of row 42 stands in its start tag.
+// 6 to 8 at element i as a leaf of this row.
 fn judged(s: &[u8], tree: &Tree, parent: usize, i: usize, row: usize, longest: usize) -> Finding
     ensures { λ r. ⌜ Judged (now (s .entry)) (now (tree .entry)) true parent i row longest r ⌝ }
 {
     let at = tree::cell(tree, i, 0);
-    let start = tree::cell(tree, i, 2);
-    let close = tree::cell(tree, i, 3);
-    if s.len() <= at {
-        return Finding::Nothing;
-    }
-    let currency = rows_places::part(s, at + 15, at + 18);
     let judgement = leaf_values::leaf(
         parent,
         row,
         longest,
-        currency,
-        rows_places::part(s, start, close),
+        tree_leaves::currency(s, tree, i),
+        tree_leaves::held(s, tree, i),
         tree::cell(tree, i, 5),
     );
     match judgement {
@@ -122,7 +115,7 @@ fn judged(s: &[u8], tree: &Tree, parent: usize, i: usize, row: usize, longest: u
             element: row,
             offset: at,
         }),
-        Judgement::NotInTheSet { at: behind } => outside(s, row, start, behind),
+        Judgement::NotInTheSet { at: behind } => outside(s, row, tree::cell(tree, i, 2), behind),
         Judgement::NotAllowed => Finding::Refused(Fault::ValueNotAllowed {
             element: row,
             offset: at,

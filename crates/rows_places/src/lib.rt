@@ -9,7 +9,7 @@ ghost use Rattle.paper.specs.Form.{Head};
 ghost use Rattle.paper.specs.Rows.{Row};
 ghost use Rattle.paper.specs.Refusals.{from-here, missing-of, missing};
 ghost use Rattle.form_names.specs.Names.{name-number};
-ghost use Rattle.tree.specs.Laid.{between, Entry};
+ghost use Rattle.tree.specs.Laid.{Entry};
 ghost use Rattle.rows_places.specs.Numbers.{of-entry, of-place, places-between, places-left};
 ghost use Rattle.rows_places.specs.Seek.{lacking, ResolvedBetween, Resolved, Takes, StandsAt, Seeks, SeekPromise};
 
@@ -73,22 +73,6 @@ fn of_place(places: &Places, p: u16, k: usize) -> u16
         return 0;
     }
     places[place][k]
-}
-
-// A part of a text, as much of it as there is.
-pub fn part(t: &[u8], from: usize, to: usize) -> &[u8]
-    ensures { λ r. ⌜ now r ≡ between from to (now (t .entry)) ⌝ }
-{
-    if t.len() < from {
-        return &t[0..0];
-    }
-    if to < from {
-        return &t[0..0];
-    }
-    if t.len() < to {
-        return &t[from..];
-    }
-    &t[from..to]
 }
 
 // The first row that is missing among the places from `from` up to `to`.

@@ -12,7 +12,9 @@ ghost use Rattle.tree.specs.Laid.{LaidAt};
 ghost use Rattle.rule_limits.specs.Ordered.{Limited, Said, Few, payment-in};
 
 // The elements of at most 16 blocks, and for each of at most 64 payments its own element, its block's element and its block's number.
-pub type Order = [u16; 208];
+pub const NUMBERS: usize = paper::MOST_BLOCKS + 3 * paper::MOST_PAYMENTS;
+
+pub type Order = [u16; NUMBERS];
 
 // Where a payment stands: its own element and its block's element; and its block's number.
 pub struct PaymentAt {

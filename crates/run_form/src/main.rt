@@ -72,6 +72,6 @@ fn run(s: &[u8], tree: &mut Tree) {
 fn main() {
     let mut buffer = io::large_buffer();
     let n = run_frames::load(b"cases", &mut buffer);
-    let mut tree = [0u16; 28200];
+    let mut tree = [0u16; tree::NUMBERS];
     run(&buffer[..n], &mut tree);
 }

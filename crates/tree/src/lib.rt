@@ -9,7 +9,9 @@ ghost use Rattle.tree.specs.Laid.{cell-of};
 // The buffer has room for 4,700 elements. An element takes up seven bytes at least (`<a></a>`), so that the largest message has fewer.
 pub const ELEMENTS: usize = 4700;
 
-pub type Tree = [u16; 28200];
+pub const NUMBERS: usize = 6 * ELEMENTS;
+
+pub type Tree = [u16; NUMBERS];
 
 pub fn wide(x: u16) -> usize
     ensures { λ r. ⌜ r ≡ x ⌝ }

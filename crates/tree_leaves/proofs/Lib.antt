@@ -1,3 +1,4 @@
 -- Laws that belong to no one function.
 pub mod Leaves
 pub mod Readings
+mod Parts

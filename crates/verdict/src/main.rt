@@ -74,7 +74,7 @@ fn report(message: &[u8], table: &mut [u32]) {
 
 fn main() {
     let mut message = [0u8; 32769];
-    let mut table = [0u32; 1024];
+    let mut table = [0u32; paper::LEAST_TABLE];
     let n = io::read_full(STDIN_FILENO, &mut message);
     report(&message[..n], &mut table);
 }

@@ -28,7 +28,7 @@ pub fn refusal_of(fault: Fault) -> Refusal
 {
     match fault {
         Fault::TableTooShort => at(14, 0, 0),
-        Fault::MessageTooLong => at(1, 0, 32768),
+        Fault::MessageTooLong => at(1, 0, paper::LARGEST_MESSAGE),
         Fault::NotOfTheForm { offset } => at(2, 0, offset),
         Fault::NotAllowedThere { element, offset } => at(3, element, offset),
         Fault::Missing { element, offset } => at(4, element, offset),

@@ -11,8 +11,8 @@ pub fn verdict(message: &[u8], table: &mut [u32]) -> Verdict
     if table.len() < paper::LEAST_TABLE {
         return Verdict::Refused(Fault::TableTooShort);
     }
-    let mut tree = [0u16; 28200];
-    let mut order = [0u16; 208];
+    let mut tree = [0u16; tree::NUMBERS];
+    let mut order = [0u16; rule_limits::NUMBERS];
     let found = verdict_stages::outcome(message, &mut tree, &mut order);
     match found {
         Verdict::Refused(fault) => Verdict::Refused(fault),
@@ -35,8 +35,8 @@ pub fn verdict(message: &[u8], table: &mut [u32]) -> Verdict
 pub fn field(message: &[u8], payment: usize, field: usize) -> &[u8]
     ensures { λ r. ⌜ FieldPromise (message .entry) payment field r ⌝ }
 {
-    let mut tree = [0u16; 28200];
-    let mut order = [0u16; 208];
+    let mut tree = [0u16; tree::NUMBERS];
+    let mut order = [0u16; rule_limits::NUMBERS];
     let found = verdict_stages::outcome(message, &mut tree, &mut order);
     match found {
         Verdict::Refused(_) => &message[0..0],

@@ -1,8 +1,8 @@
 use mathlib.Core.Path.{sym}
 use borrow.Author.Needs.{needs}
-use Rattle.rows_places.proofs.Parts.{part-past, part-back, part-end}
-use Rattle.rows_places.proofs.part.Statement.{statement}
-use Rattle.rows_places.proofs.part.Tie as tie
+use Rattle.tree_leaves.proofs.Parts.{part-past, part-back, part-end}
+use Rattle.tree_leaves.proofs.part.Statement.{statement}
+use Rattle.tree_leaves.proofs.part.Tie as tie
 
 sub-result : tie.Need-sub-result
 sub-result c = search needs
