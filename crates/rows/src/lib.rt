@@ -100,11 +100,15 @@ fn children(
     rows_contents::ended(rows, places, from, further, to, tree::cell(tree, i, 3))
 }
 
-// The walk over the rows, from the root: 3 and 4, or, where it is judging, 6 to 8 as well.
+// The walk over the rows, from the root, which is a group: 3 and 4, or, where it is judging, 6 to 8 as well. (`element` has one caller, so the compiler makes one function
+// of it and `children`, and a leaf is judged without a call.)
 pub fn rows_refusal(s: &[u8], tree: &Tree, judging: bool) -> Finding
     ensures { λ r. ⌜ WalkPromise (now (s .entry)) (now (tree .entry)) judging r ⌝ }
 {
     let rows = rows_profile::rows();
     let places = rows_profile::places();
-    element(s, tree, &rows, &places, judging, 0, 0, 0)
+    if tree::cell(tree, 0, 4) <= 1 {
+        return rows_contents::text_in_group(s, tree, &rows, &places, 0, 0);
+    }
+    children(s, tree, &rows, &places, judging, 0, 0)
 }

@@ -86,7 +86,11 @@ tested = record { root-agrees = refl; first-agree = refl; second-agree = refl }
 pub rows-stand : Stands the-rows (entries-of the-rows) (places-in the-rows)
 rows-stand = by-test the-rows (entries-of the-rows) (places-in the-rows) tested
 
--- the first entry is row 1
+-- the first entry is row 1, a group
 pub first-entry : of-entry (entries-of the-rows) 0 0 ≡ 1
 unfolding number-at entries-of entries the-rows leaf group group-under
 first-entry = refl
+
+pub first-group : of-entry (entries-of the-rows) 0 3 ≡ 0
+unfolding number-at entries-of entries the-rows leaf group group-under
+first-group = refl
