@@ -2,16 +2,18 @@
 use Prim.Native.Nat.{ℕ, zero, suc, _<_, _≤_}
 use Prim.Native.Char.{Char, code}
 use Prim.Native.String.{String, [] as []ˢ, _∷_ as _∷ˢ_}
+use mathlib.Core.List.{List}
 use mathlib.Core.Bool.{Bool, true, false, _&&_, not, and-false, and-true}
 use mathlib.Core.Path.{_≡_, refl, sym, subst}
 use native.Mathlib.Omega.{arith}
+use lib.ListN.{getD}
 use lib.Dec.{eqb, leb}
 use borrow.Author.Tests.{leb-true, leb-false, lt-leb, eqb-true, eqb-false, ne-eqb}
 use Rattle.paper.specs.Bytes.{if_then_else_, bytes, is, from-to, one-of, white, text-byte, capital, digit, letter, letter-or-digit, value-character, every}
 use Rattle.paper.specs.Values.{lies-from}
 use Rattle.paper.proofs.Laws.{both-left, both-right}
 use Rattle.paper_grammar.proofs.AllBytes.{is-byte}
-use Rattle.form_ranks.specs.Ranks.{rank}
+use Rattle.form_ranks.specs.Ranks.{rank, RanksAre}
 
 -- A test of every number below n, and what it says of each.
 unfoldable pub each-below : (ℕ → Bool) → ℕ → Bool
@@ -26,6 +28,10 @@ below-says p (suc n) e b h = by (eqb b n) refl (below-says p n (both-right (p n)
     by : (t : Bool) → eqb b n ≡ t → (b < n → p b ≡ true) → p b ≡ true
     by true q rest = subst (λ (k : ℕ). p k ≡ true) (sym (eqb-true b n q)) (both-left (p n) _ e)
     by false q rest = let k : b ≡ n → ⊥ = eqb-false b n q in rest (omega arith)
+
+-- A table that holds the rank of each byte, by one test of all of them.
+pub ranks-are : (table : List ℕ) → each-below (λ b. eqb (getD table b 0) (rank b)) 256 ≡ true → RanksAre table
+ranks-are table e = record { right = λ b h. eqb-true (getD table b 0) (rank b) (below-says (λ b. eqb (getD table b 0) (rank b)) 256 e b h) }
 
 -- Two tests have the same answer.
 unfoldable agree : Bool → Bool → Bool

@@ -17,5 +17,5 @@ rank b =
     if text-byte b then 1 else 0
 
 -- The table holds the rank of each byte.
-abbrev pub RanksAre : List ℕ → Type 0
-RanksAre table = (b : ℕ) → b < 256 → getD table b 0 ≡ rank b
+pub record RanksAre (table : List ℕ) : Type 0 where
+  pub right : (b : ℕ) → b < 256 → getD table b 0 ≡ rank b

@@ -1,44 +1,36 @@
-// The ranks of bytes (specs/Ranks.antt), so ordered that most classes of bytes are those from a rank on: 0 no text, 1 text, 2 tab and line ends, 3 space,
+// The ranks of bytes (specs/Ranks.antt), so ordered that each class of bytes is those from one rank to another: 0 no text, 1 text, 2 tab and line ends, 3 space,
 // 4 punctuation of the characters of values, 5 digit, 6 small letter, 7 capital.
 ghost use mathlib.Core.Path.{_≡_};
 ghost use Rattle.paper.specs.Bytes.{white};
 ghost use Rattle.paper.specs.Values.{lies-from};
 ghost use Rattle.form_ranks.specs.Ranks.{rank, RanksAre};
 
-// The rank of each byte. A const table is made anew wherever it is used: make it once, and lend it.
+// The rank of each byte, sixteen a line. A const table is made anew wherever it is used: make it once, and lend it.
 pub type Ranks = [u8; 256];
 
-// Sixteen bytes a line.
-const LINES: [[u8; 16]; 16] = [
-    [0, 0, 0, 0, 0, 0, 0, 0, 0, 2, 2, 0, 0, 2, 0, 0],
-    [0, 0, 0, 0, 0, 0, 0, 0, 0, 0, 0, 0, 0, 0, 0, 0],
-    [3, 1, 1, 1, 1, 1, 0, 4, 4, 4, 1, 4, 4, 4, 4, 4],
-    [5, 5, 5, 5, 5, 5, 5, 5, 5, 5, 4, 1, 0, 1, 1, 4],
-    [1, 7, 7, 7, 7, 7, 7, 7, 7, 7, 7, 7, 7, 7, 7, 7],
-    [7, 7, 7, 7, 7, 7, 7, 7, 7, 7, 7, 1, 1, 1, 1, 1],
-    [1, 6, 6, 6, 6, 6, 6, 6, 6, 6, 6, 6, 6, 6, 6, 6],
-    [6, 6, 6, 6, 6, 6, 6, 6, 6, 6, 6, 1, 1, 1, 1, 1],
-    [1, 1, 1, 1, 1, 1, 1, 1, 1, 1, 1, 1, 1, 1, 1, 1],
-    [1, 1, 1, 1, 1, 1, 1, 1, 1, 1, 1, 1, 1, 1, 1, 1],
-    [1, 1, 1, 1, 1, 1, 1, 1, 1, 1, 1, 1, 1, 1, 1, 1],
-    [1, 1, 1, 1, 1, 1, 1, 1, 1, 1, 1, 1, 1, 1, 1, 1],
-    [1, 1, 1, 1, 1, 1, 1, 1, 1, 1, 1, 1, 1, 1, 1, 1],
-    [1, 1, 1, 1, 1, 1, 1, 1, 1, 1, 1, 1, 1, 1, 1, 1],
-    [1, 1, 1, 1, 1, 1, 1, 1, 1, 1, 1, 1, 1, 1, 1, 1],
-    [1, 1, 1, 1, 1, 1, 1, 1, 1, 1, 1, 1, 1, 1, 1, 1],
-];
+const RANKS: Ranks = *b"\
+    \x00\x00\x00\x00\x00\x00\x00\x00\x00\x02\x02\x00\x00\x02\x00\x00\
+    \x00\x00\x00\x00\x00\x00\x00\x00\x00\x00\x00\x00\x00\x00\x00\x00\
+    \x03\x01\x01\x01\x01\x01\x00\x04\x04\x04\x01\x04\x04\x04\x04\x04\
+    \x05\x05\x05\x05\x05\x05\x05\x05\x05\x05\x04\x01\x00\x01\x01\x04\
+    \x01\x07\x07\x07\x07\x07\x07\x07\x07\x07\x07\x07\x07\x07\x07\x07\
+    \x07\x07\x07\x07\x07\x07\x07\x07\x07\x07\x07\x01\x01\x01\x01\x01\
+    \x01\x06\x06\x06\x06\x06\x06\x06\x06\x06\x06\x06\x06\x06\x06\x06\
+    \x06\x06\x06\x06\x06\x06\x06\x06\x06\x06\x06\x01\x01\x01\x01\x01\
+    \x01\x01\x01\x01\x01\x01\x01\x01\x01\x01\x01\x01\x01\x01\x01\x01\
+    \x01\x01\x01\x01\x01\x01\x01\x01\x01\x01\x01\x01\x01\x01\x01\x01\
+    \x01\x01\x01\x01\x01\x01\x01\x01\x01\x01\x01\x01\x01\x01\x01\x01\
+    \x01\x01\x01\x01\x01\x01\x01\x01\x01\x01\x01\x01\x01\x01\x01\x01\
+    \x01\x01\x01\x01\x01\x01\x01\x01\x01\x01\x01\x01\x01\x01\x01\x01\
+    \x01\x01\x01\x01\x01\x01\x01\x01\x01\x01\x01\x01\x01\x01\x01\x01\
+    \x01\x01\x01\x01\x01\x01\x01\x01\x01\x01\x01\x01\x01\x01\x01\x01\
+    \x01\x01\x01\x01\x01\x01\x01\x01\x01\x01\x01\x01\x01\x01\x01\x01\
+";
 
 pub fn ranks() -> Ranks
     ensures { λ r. ⌜ RanksAre r ⌝ }
 {
-    let lines = LINES;
-    let mut all = [0u8; 256];
-    let mut b = 0;
-    while b < 256 {
-        all[b] = lines[b / 16][b % 16];
-        b += 1;
-    }
-    all
+    RANKS
 }
 
 pub fn rank(ranks: &Ranks, b: u8) -> u8

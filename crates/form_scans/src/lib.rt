@@ -38,12 +38,18 @@ fn four_ranked(s: &[u8], ranks: &Ranks, at: usize, stop: usize, low: u8, high: u
     form_ranks::ranked(ranks, s[at + 3], low, high)
 }
 
-// The bytes from an offset on whose ranks lie from low to high, up to another offset at most; four at a time.
+// The bytes from an offset on whose ranks lie from low to high, up to another offset at most: often none, so the first by itself, and then four at a time.
 fn run_end(s: &[u8], ranks: &Ranks, at: usize, stop: usize, low: u8, high: u8) -> usize
     requires { ⌜ (at ≤ stop) × (stop ≤ length (now s)) ⌝ }
     ensures { λ r. ⌜ (RanksAre (now (ranks .entry)) → (class : ℕ → Bool) → IsClass class low high → Run (now (s .entry)) at stop class r) ⌝ }
 {
-    let mut i = at;
+    if stop <= at {
+        return at;
+    }
+    if !form_ranks::ranked(ranks, s[at], low, high) {
+        return at;
+    }
+    let mut i = at + 1;
     while four_ranked(s, ranks, i, stop, low, high) {
         i += 4;
     }

@@ -16,7 +16,7 @@ use Rattle.paper.specs.Bytes.{if_then_else_, bytes, is, from-to, one-of, letter
 use Rattle.paper.specs.Values.{among, fits, shaped, two-slashes}
 use Rattle.paper.specs.Refusals.{first-not}
 use Rattle.paper.proofs.Laws.{both-right}
-use Rattle.leaf_texts.specs.Shapes.{fits-byte, pairwise}
+use Rattle.leaf_texts.specs.Shapes.{fits-byte, pairwise, FourSame}
 
 pub drop-at : (s : List ℕ) (i : ℕ) → i < length s → drop i s ≡ getD s i 0 ∷ drop (i + 1) s
 drop-at s i h = rw add-one (drop-cons s i 0 h)
@@ -119,6 +119,17 @@ module _ (f : ℕ → ℕ → Bool) where
   pairwise-same-length [] (b ∷ t) e = let z : _≡_ {A = ℕ} 0 1 = cc in absurd (omega arith)
   pairwise-same-length (a ∷ s) [] e = let z : _≡_ {A = ℕ} 0 1 = cc in absurd (omega arith)
   pairwise-same-length (a ∷ s) (b ∷ t) e = ap suc (pairwise-same-length s t (both-right (f a b) (pairwise f s t) e))
+
+-- four bytes at once
+pub four-on : (s t : List ℕ) (i : ℕ) → length s ≡ length t → FourSame s t i → pairwise eqb (drop i s) (drop i t) ≡ pairwise eqb (drop (i + 4) s) (drop (i + 4) t)
+four-on s t i e f =
+    let w = f .within in
+    step i (i + 1) (omega (arith, w)) refl (f .first)
+    ∙ (step (i + 1) (i + 2) (omega (arith, w)) (omega arith) (f .second)
+    ∙ (step (i + 2) (i + 3) (omega (arith, w)) (omega arith) (f .third) ∙ step (i + 3) (i + 4) (omega (arith, w)) (omega arith) (f .fourth)))
+  where
+    step : (j k : ℕ) → j < length s → k ≡ j + 1 → getD s j 0 ≡ getD t j 0 → pairwise eqb (drop j s) (drop j t) ≡ pairwise eqb (drop k s) (drop k t)
+    step j k l m g = rw m (pairwise-goes eqb s t j l (omega (arith, l, e)) (eq-eqb (getD s j 0) (getD t j 0) g))
 
 -- the paper's own forms
 pub one-of-is : (s : String) (b : ℕ) → one-of s b ≡ among b (bytes s)

@@ -1,10 +1,11 @@
 // Texts compared with shapes and with one another. A text is a part of the message.
 ghost use mathlib.Core.Path.{_≡_};
-ghost use mathlib.Core.Bool.{_&&_, _||_};
+ghost use mathlib.Core.Bool.{true, _&&_, _||_};
 ghost use lib.Dec.{leb};
-ghost use lib.ListN.{getD};
+ghost use Prim.Native.Nat.{_≤_};
+ghost use lib.ListN.{length, getD};
 ghost use Rattle.paper.specs.Bytes.{capital, digit, capital-or-digit, every, same};
-ghost use Rattle.leaf_texts.specs.Shapes.{fits-byte, pairwise};
+ghost use Rattle.leaf_texts.specs.Shapes.{fits-byte, pairwise, FourSame};
 
 // The byte lies from low to high.
 pub fn between(low: u8, high: u8, b: u8) -> bool
@@ -80,6 +81,26 @@ pub fn shaped(shape: &[u8], s: &[u8]) -> bool
     true
 }
 
+// Four bytes stand at a place of two texts of one length, the same in both.
+fn four_same(s: &[u8], t: &[u8], i: usize) -> bool
+    requires { ⌜ (length (now s) ≡ length (now t)) × (i ≤ length (now s)) ⌝ }
+    ensures { λ r. ⌜ (r ≡ true → FourSame (now (s .entry)) (now (t .entry)) i) ⌝ }
+{
+    if s.len() - i < 4 {
+        return false;
+    }
+    if s[i] != t[i] {
+        return false;
+    }
+    if s[i + 1] != t[i + 1] {
+        return false;
+    }
+    if s[i + 2] != t[i + 2] {
+        return false;
+    }
+    s[i + 3] == t[i + 3]
+}
+
 // The two texts are equal, byte for byte.
 pub fn same(s: &[u8], t: &[u8]) -> bool
     ensures { λ r. ⌜ r ≡ same (now (s .entry)) (now (t .entry)) ⌝ }
@@ -88,6 +109,9 @@ pub fn same(s: &[u8], t: &[u8]) -> bool
         return false;
     }
     let mut i = 0;
+    while four_same(s, t, i) {
+        i += 4;
+    }
     while i < s.len() {
         if s[i] != t[i] {
             return false;
