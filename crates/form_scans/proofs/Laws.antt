@@ -164,14 +164,19 @@ module _ {s : List ℕ} {at : ℕ} (v w : List ℕ) where
         goes = λ x i. let j = g .goes x i in omega (arith, j, m, length-append v w);
       }
 
--- what holds of every byte from an offset on goes one byte further
-pub one-further : (P : ℕ → Type 0) (s : List ℕ) (at i : ℕ) → ((k : ℕ) → at ≤ k → k < i → P (getD s k 0)) → P (getD s i 0)
-    → (k : ℕ) → at ≤ k → k < i + 1 → P (getD s k 0)
-one-further P s at i f e k l u = go (decLe i k)
+-- what holds of every byte up to one offset, and from there up to another
+pub and-then : (P : ℕ → Type 0) (s : List ℕ) (at i r : ℕ) → ((k : ℕ) → at ≤ k → k < i → P (getD s k 0)) → ((k : ℕ) → i ≤ k → k < r → P (getD s k 0))
+    → (k : ℕ) → at ≤ k → k < r → P (getD s k 0)
+and-then P s at i r f g k l u = go (decLe i k)
   where
     go : Dec (i ≤ k) → P (getD s k 0)
-    go (yes m) = let z : i ≡ k = omega (arith, m, u) in subst (λ z. P (getD s z 0)) z e
+    go (yes m) = g k m u
     go (no m) = f k l (omega (arith, m))
+
+-- it goes one byte further
+pub one-further : (P : ℕ → Type 0) (s : List ℕ) (at i : ℕ) → ((k : ℕ) → at ≤ k → k < i → P (getD s k 0)) → P (getD s i 0)
+    → (k : ℕ) → at ≤ k → k < i + 1 → P (getD s k 0)
+one-further P s at i f e = and-then P s at i (i + 1) f (λ k m u. let z : i ≡ k = omega (arith, m, u) in subst (λ z. P (getD s z 0)) z e)
 
 -- and four bytes in turn have it
 pub of-four : (P : ℕ → Type 0) (s : List ℕ) (at : ℕ) → P (getD s at 0) → P (getD s (at + 1) 0) → P (getD s (at + 2) 0) → P (getD s (at + 3) 0)
@@ -182,15 +187,6 @@ of-four P s at a b c d k l u =
     let two = one-further P s at (at + 1) one b in
     let three = one-further P s at (at + 2) (λ k l u. two k l (omega (arith, u))) c in
     one-further P s at (at + 3) (λ k l u. three k l (omega (arith, u))) d k l (omega (arith, u))
-
--- what holds of every byte up to one offset, and from there up to another
-pub and-then : (P : ℕ → Type 0) (s : List ℕ) (at i r : ℕ) → ((k : ℕ) → at ≤ k → k < i → P (getD s k 0)) → ((k : ℕ) → i ≤ k → k < r → P (getD s k 0))
-    → (k : ℕ) → at ≤ k → k < r → P (getD s k 0)
-and-then P s at i r f g k l u = go (decLe i k)
-  where
-    go : Dec (i ≤ k) → P (getD s k 0)
-    go (yes m) = g k m u
-    go (no m) = f k l (omega (arith, m))
 
 -- what holds up to one offset, and goes on from each to the next, holds up to another
 pub climb : (P : ℕ → Type 0) (at r : ℕ) → at ≤ r → P at → ((i : ℕ) → at ≤ i → i < r → P i → P (i + 1)) → P r
