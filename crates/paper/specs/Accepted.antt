@@ -9,7 +9,7 @@ use lib.ListN.{length}
 use Rattle.paper.specs.Sizes.{largest-message, most-blocks, most-payments}
 use Rattle.paper.specs.Bytes.{value-character, Every}
 use Rattle.paper.specs.Form.{Head, Element, IsMessage}
-use Rattle.paper.specs.Rows.{Row, row-of, longest-of, Conforms}
+use Rattle.paper.specs.Rows.{Row, Profile, row-of, longest-of, Conforms}
 use Rattle.paper.specs.Values.{allowed, number, cents}
 use Rattle.paper.specs.Payments.{Payment, text-of, all-of, blocks, header-count, header-sum, block-id, block-count, block-sum, instructed-amount, payments, in-payment, in-block}
 
@@ -46,10 +46,10 @@ pub record RightText (parent : ℕ) (r : Row) (h : Head) (w : List ℕ) : Type 0
   pub value : allowed parent (r .row) (h .currency) w ≡ true
 
 -- Rows and values: the root conforms to row 1.
-unfoldable pub RowsKept : (profile : List Row) → Element → Type 0
+unfoldable pub RowsKept : (profile : Profile) → Element → Type 0
 RowsKept profile root = Conforms profile AnyText root 0 (row-of profile 0 1)
 
-unfoldable pub ValuesRight : (profile : List Row) → Element → Type 0
+unfoldable pub ValuesRight : (profile : Profile) → Element → Type 0
 ValuesRight profile root = Conforms profile RightText root 0 (row-of profile 0 1)
 
 -- Limits: so many blocks and payments.
@@ -89,7 +89,7 @@ pub record TotalFits (root : Element) : Type 0 where
   pub fits : cents < 2 ^ 64
 
 -- All that is asked but the counts and sums.
-pub record RightButCounts (profile : List Row) (root : Element) : Type 0 where
+pub record RightButCounts (profile : Profile) (root : Element) : Type 0 where
   pub rows : RowsKept profile root
   pub limits : LimitsKept root
   pub values : ValuesRight profile root
@@ -109,12 +109,12 @@ pub record CountsTrue (root : Element) : Type 0 where
   pub of-message : Truthful (header-count root) (header-sum root) (map (λ p. p .own) (payments root))
   pub of-blocks : All (λ b. Truthful (block-count b) (block-sum b) (all-of 37 b)) (blocks root)
 
-pub record AcceptedTree (profile : List Row) (root : Element) : Type 0 where
+pub record AcceptedTree (profile : Profile) (root : Element) : Type 0 where
   pub but-counts : RightButCounts profile root
   pub counts : CountsTrue root
 
 -- A message is accepted.
-pub record Accepted (profile : List Row) (s : List ℕ) : Type 0 where
+pub record Accepted (profile : Profile) (s : List ℕ) : Type 0 where
   pub size : length s ≤ largest-message
   pub root : Element
   pub form : IsMessage s root

@@ -1,4 +1,5 @@
--- The answers of the code are enums. This gives the rules' number and values for each of their cases.
+-- What the code is told and what it answers, in the rules' words. A caller names a profile by a struct of the code, whose part `instant` says which of the two it is. The answers are enums: this
+-- gives the rules' number and values for each of their cases.
 use Prim.Native.Nat.{ℕ}
 use mathlib.Core.Option.{Option, none, some}
 use Rattle.paper.specs.declared.Fault.{Fault}
@@ -9,9 +10,17 @@ use Rattle.paper.specs.declared.Verdict.{Verdict}
 use Rattle.paper.specs.declared.Verdict.the-variants.{Accepted, Refused}
 use Rattle.paper.specs.declared.Regrouping.{Regrouping}
 use Rattle.paper.specs.declared.Regrouping.the-variants as regrouping
+use Rattle.paper.specs.declared.Profile.{Profile}
 use Rattle.paper.specs.Sizes.{largest-message}
+use Rattle.paper.specs.Bytes.{if_then_else_}
+use Rattle.paper.specs.Rows as rules
+use Rattle.paper.specs.Rows.{first-profile, instant-profile}
 use Rattle.paper.specs.Refusals.{Refusal, MessageAnswer, refused, accepted}
 use Rattle.paper.specs.Regrouping.{RegroupingAnswer, message-refused, answered}
+
+-- The profile of the rules that the caller names.
+unfoldable pub profile-named : Profile → rules.Profile
+profile-named p = if p .instant then instant-profile else first-profile
 
 unfoldable pub numbered : (number element offset : ℕ) → Refusal
 numbered number element offset = record { number = number; element = element; offset = offset }

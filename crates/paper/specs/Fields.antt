@@ -64,7 +64,7 @@ fields p =
     or-means (bytes "true") (in-block (13 ∷ []) p) ∷  -- 1 batch booking, absent means true
     or-means (bytes "NORM") (inherited (16 ∷ 17 ∷ []) p) ∷  -- 2 priority, absent means NORM
     plain (inherited (16 ∷ 20 ∷ 21 ∷ []) p) ∷  -- 3 category purpose
-    plain (in-block (22 ∷ 23 ∷ []) p) ∷  -- 4 execution date
+    plain (either-of (in-block (22 ∷ 23 ∷ []) p) (in-block (22 ∷ 58 ∷ []) p)) ∷  -- 4 execution date: the date, or the date and time
     plain (in-block (24 ∷ 25 ∷ []) p) ∷  -- 5 debtor's name
     plain (in-block (26 ∷ 27 ∷ 28 ∷ []) p) ∷  -- 6 debtor's IBAN
     plain (either-of (in-block (29 ∷ 30 ∷ 31 ∷ []) p) (in-block (29 ∷ 30 ∷ 32 ∷ 33 ∷ []) p)) ∷  -- 7 debtor's agent: BIC or NOTPROVIDED

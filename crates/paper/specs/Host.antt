@@ -2,9 +2,15 @@
 use Prim.Native.Nat.{ℕ, _/_, _%_}
 use mathlib.Core.List.{List, [], _∷_}
 use lib.ListN.{length}
-use Rattle.paper.specs.Bytes.{each}
+use lib.Dec.{eqb}
+use Rattle.paper.specs.Bytes.{if_then_else_, each}
+use Rattle.paper.specs.Rows.{Profile, first-profile, instant-profile}
 use Rattle.paper.specs.Refusals.{Outcome}
 use Rattle.paper.specs.Table.{over, written}
+
+-- The profile is a number: 1 is the instant one, any other the first.
+unfoldable pub profile-numbered : ℕ → Profile
+profile-numbered n = if eqb n 1 then instant-profile else first-profile
 
 -- Table numbers as four bytes, high byte first.
 unfoldable pub four-bytes : ℕ → List ℕ

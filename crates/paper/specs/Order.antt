@@ -7,7 +7,7 @@ use mathlib.Core.Path.{_≡_}
 use lib.ListN.{length}
 use Rattle.paper.specs.Sizes.{largest-message, least-table}
 use Rattle.paper.specs.Form.{Element, IsMessage, OfTheForm}
-use Rattle.paper.specs.Rows.{Row}
+use Rattle.paper.specs.Rows.{Profile}
 use Rattle.paper.specs.Payments.{Payment, payments}
 use Rattle.paper.specs.Refusals.{Refusal, refused-as, outcome-alone}
 use Rattle.paper.specs.Accepted.{EachWith, Distinct, RowsKept, LimitsKept, ValuesRight, UsageKept, IdsApart, TotalFits, CountsTrue, Accepted}
@@ -38,7 +38,7 @@ unfoldable pub OfItsRoot : List ℕ → (Element → Type 0) → Type 0
 OfItsRoot s P = (root : Element) × IsMessage s root × P root
 
 -- What `Accepted` says of a stage, and of the table's length.
-unfoldable pub StageHolds : (profile : List Row) (table-length : ℕ) (s : List ℕ) → Stage → Type 0
+unfoldable pub StageHolds : (profile : Profile) (table-length : ℕ) (s : List ℕ) → Stage → Type 0
 StageHolds profile n s for-table = least-table ≤ n
 StageHolds profile n s for-size = length s ≤ largest-message
 StageHolds profile n s for-form = OfTheForm s
@@ -69,7 +69,7 @@ pub record LowestDifference (one other : Payment) (field : ℕ) : Type 0 where
   pub differs : its-value ≡ others-value → ⊥
   pub field-is : field ≡ suc (length equal-before)
 
-module _ (profile : List Row) (first second file : List ℕ) where
+module _ (profile : Profile) (first second file : List ℕ) where
   -- both messages are accepted, with equally many payments
   pub record Comparable : Type 0 where
     pub first-accepted : Accepted profile first

@@ -9,7 +9,7 @@ use Rattle.paper.specs.Sizes.{largest-message, least-table, most-blocks,
 use Rattle.paper.specs.Bytes.{if_then_else_, white, value-character, every, same}
 use Rattle.paper.specs.Form.{Head, Element, Elements, holding-text, holding-elements, []ᵉ, _∷ᵉ_}
 use Rattle.paper.specs.Computed.Reading.{Reading, root-is, stops-at, read}
-use Rattle.paper.specs.Rows.{Place, one, opt, plus, either, text, elements, Row, name, row-of, longest-of, head-of}
+use Rattle.paper.specs.Rows.{Place, one, opt, plus, either, text, elements, Row, Profile, name, row-of, longest-of, head-of}
 use Rattle.paper.specs.Values.{lies-from, allowed, number, cents}
 use Rattle.paper.specs.Payments.{Payment, text-of, all-of, blocks, header-count, header-sum, block-id, block-count, block-sum, payments, in-payment, in-block, sum-of, total}
 
@@ -118,7 +118,7 @@ seek (again k ps) w = if same w (name k) then found k (again k ps) else seek-in 
 abbrev pub Judgement : Type 0
 Judgement = (parent : ℕ) → Row → Head → List ℕ → Option Refusal
 
-module _ (profile : List Row) (judge : Judgement) where
+module _ (profile : Profile) (judge : Judgement) where
   unfoldable mutual
     pub walk : Element → (parent : ℕ) → Row → Option Refusal
     walk (holding-text h w) parent r =
@@ -142,7 +142,7 @@ module _ (profile : List Row) (judge : Judgement) where
 unfoldable pub no-judgement : Judgement
 no-judgement parent r h w = none
 
-unfoldable pub rows-refusal : List Row → Element → Option Refusal
+unfoldable pub rows-refusal : Profile → Element → Option Refusal
 rows-refusal profile root = walk profile no-judgement root 0 (row-of profile 0 1)
 
 -- 5: the 17th block or the 65th payment, whichever comes first.
@@ -166,7 +166,7 @@ leaf-refusal parent r h w =
     if not (every value-character w) then refuse 7 (r .row) (h .start + first-not value-character w) else
     if not (allowed parent (r .row) (h .currency) w) then refuse 8 (r .row) (h .at) else none
 
-unfoldable pub values-refusal : List Row → Element → Option Refusal
+unfoldable pub values-refusal : Profile → Element → Option Refusal
 values-refusal profile root = walk profile leaf-refusal root 0 (row-of profile 0 1)
 
 -- 9 and 10: one walk over payments, in each 16, 36, 34.
@@ -236,7 +236,7 @@ counts-refusal root =
     unless (λ w. eqb (cents w) (total root)) 13 7 (header-sum root) or-else block-counts (blocks root)
 
 -- the stages over the tree of a message of the form
-unfoldable pub tree-refusal : List Row → Element → Option Refusal
+unfoldable pub tree-refusal : Profile → Element → Option Refusal
 tree-refusal profile root =
     rows-refusal profile root or-else limits-refusal root or-else values-refusal profile root or-else usage-refusal root or-else
     ids-refusal root or-else total-refusal root or-else counts-refusal root
@@ -251,15 +251,15 @@ unless-refused (some r) otherwise = refused-as r
 unless-refused none otherwise = otherwise
 
 -- 2: the form, at the offset where the reading stops.
-unfoldable pub of-reading : List Row → Reading → Outcome
+unfoldable pub of-reading : Profile → Reading → Outcome
 of-reading profile (stops-at n) = refused-as (record { number = 2; element = 0; offset = n })
 of-reading profile (root-is root) = unless-refused (tree-refusal profile root) (accepted-with root)
 
 -- where no table is lent, as in a regrouping; and where a table of so many numbers is
-unfoldable pub outcome-alone : List Row → List ℕ → Outcome
+unfoldable pub outcome-alone : Profile → List ℕ → Outcome
 outcome-alone profile s = unless-refused (size-refusal s) (of-reading profile (read s))
 
-unfoldable pub outcome : List Row → (table-length : ℕ) → List ℕ → Outcome
+unfoldable pub outcome : Profile → (table-length : ℕ) → List ℕ → Outcome
 outcome profile n s = unless-refused (table-refusal n) (outcome-alone profile s)
 
 -- The answer to a message. Refused: number, element, offset and counts of zero. Accepted: blocks, payments and total cents, with number, element and offset 0.
@@ -281,5 +281,5 @@ unfoldable pub answer-to : Outcome → MessageAnswer
 answer-to (refused-as r) = refused r
 answer-to (accepted-with root) = accepted (length (blocks root)) (length (payments root)) (total root)
 
-unfoldable pub verdict : List Row → (table-length : ℕ) → List ℕ → MessageAnswer
+unfoldable pub verdict : Profile → (table-length : ℕ) → List ℕ → MessageAnswer
 verdict profile n s = answer-to (outcome profile n s)

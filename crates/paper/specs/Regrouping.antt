@@ -8,7 +8,7 @@ use lib.ListN.{length, getD, take, drop}
 use lib.Dec.{eqb, ltb}
 use Rattle.paper.specs.Bytes.{if_then_else_, bytes, same, each}
 use Rattle.paper.specs.Form.{Element}
-use Rattle.paper.specs.Rows.{Row}
+use Rattle.paper.specs.Rows.{Profile}
 use Rattle.paper.specs.Values.{among}
 use Rattle.paper.specs.Payments.{Payment, payments}
 use Rattle.paper.specs.Refusals.{Refusal, Outcome, refused-as, accepted-with, outcome-alone}
@@ -85,14 +85,14 @@ of-outcomes (refused-as r) second file = message-refused 1 r
 of-outcomes (accepted-with t) (refused-as r) file = message-refused 2 r
 of-outcomes (accepted-with t) (accepted-with u) file = of-payments (all-values t) (all-values u) file
 
-unfoldable pub regrouping : List Row → (first second file : List ℕ) → RegroupingAnswer
+unfoldable pub regrouping : Profile → (first second file : List ℕ) → RegroupingAnswer
 regrouping profile first second file = of-outcomes (outcome-alone profile first) (outcome-alone profile second) file
 
 -- For 20 that field's text as the second message has it, otherwise the empty part at 0 of the second.
 unfoldable pub part-for : RegroupingAnswer → (second : Outcome) → Part
 part-for a second = if eqb (a .whose) 0 && eqb (a .number) 20 then field-part second (a .k) (a .field) else part-of none
 
-unfoldable pub differing-part : List Row → (first second file : List ℕ) → Part
+unfoldable pub differing-part : Profile → (first second file : List ℕ) → Part
 differing-part profile first second file = part-for (regrouping profile first second file) (outcome-alone profile second)
 
 -- A regrouping is accepted, said plainly: both messages are accepted and have equally many payments; the list is well formed and names every
@@ -107,7 +107,7 @@ pub record Names (first : List Payment) (ordinal : ℕ) (other : Payment) : Type
   pub is-named : At first ordinal one
   pub equal : values-of one ≡ values-of other
 
-pub record Regroups (profile : List Row) (first second file : List ℕ) : Type 0 where
+pub record Regroups (profile : Profile) (first second file : List ℕ) : Type 0 where
   pub first-accepted : Accepted profile first
   pub second-accepted : Accepted profile second
   pub equally-many : length (payments (first-accepted .root)) ≡ length (payments (second-accepted .root))
@@ -118,7 +118,7 @@ pub record Regroups (profile : List Row) (first second file : List ℕ) : Type 0
   pub paired : EachWith (Names (payments (first-accepted .root))) ordinals (payments (second-accepted .root))
 
 -- An acceptable list, of bytes; and that every payment, taken as those seventeen fields, stands equally often in both.
-pub record AcceptableList (profile : List Row) (first second : List ℕ) : Type 0 where
+pub record AcceptableList (profile : Profile) (first second : List ℕ) : Type 0 where
   pub file : List ℕ
   pub of-bytes : All (λ b. b < 256) file
   pub accepted : Regroups profile first second file

@@ -2,7 +2,7 @@
 -- the rest (`one`) exactly one. A number after a leaf is its longest length in bytes.
 use Prim.Native.Nat.{ℕ}
 use Prim.Native.String.{String}
-use mathlib.Core.List.{List, [], _∷_, List·Memᴰ}
+use mathlib.Core.List.{List, [], _∷_, _++_, List·Memᴰ}
 use mathlib.Core.Bool.{_&&_, _||_}
 use mathlib.Core.Path.{_≡_}
 use lib.Dec.{eqb}
@@ -95,20 +95,57 @@ rows =
     leaf 54 "Issr" 35 ∷
     leaf 55 "Ref" 35 ∷ []
 
--- A row's name goes by its number alone. (A number that is no row's has the empty name, which no element has.)
+-- The instant profile has these rows instead of those of the same number: row 16 with a local instrument, row 22 with a choice. Three are new.
+unfoldable pub instant-changes : List Row
+instant-changes =
+    group 16 "PmtTpInf" (opt 17 ∷ one 18 ∷ one 56 ∷ opt 20 ∷ []) ∷
+    group 22 "ReqdExctnDt" (either (23 ∷ 58 ∷ []) ∷ []) ∷
+    group 56 "LclInstrm" (one 57 ∷ []) ∷
+    leaf 57 "Cd" 35 ∷
+    leaf 58 "DtTm" 25 ∷ []
+
+-- some rows, with a row in place of the one of its number (under the same group), or behind them all where there is none; with each of several
+unfoldable pub with-row : Row → List Row → List Row
+with-row r [] = r ∷ []
+with-row r (q ∷ qs) = if eqb (q .row) (r .row) && eqb (q .under) (r .under) then r ∷ qs else q ∷ with-row r qs
+
+unfoldable pub with-rows : (changes : List Row) → List Row → List Row
+with-rows [] rs = rs
+with-rows (r ∷ changes) rs = with-rows changes (with-row r rs)
+
+unfoldable pub instant-rows : List Row
+instant-rows = with-rows instant-changes rows
+
+-- A profile is what a message is read by. The caller names one of two: the first, whose rows are the list above, or the instant one.
+pub record Profile : Type 0 where
+  pub rows : List Row
+
+unfoldable pub first-profile : Profile
+first-profile = record { rows = rows }
+
+unfoldable pub instant-profile : Profile
+instant-profile = record { rows = instant-rows }
+
+-- A row's name goes by its number alone, in either profile. (That both lists give a row one name is computed: crates/form_names/proofs/Laws.antt, `rows-right`. A number that is
+-- no row's has the empty name, which no element has.)
+unfoldable pub every-row : List Row
+every-row = rows ++ instant-changes
+
 unfoldable pub name-in : List Row → ℕ → List ℕ
 name-in [] k = []
 name-in (r ∷ rs) k = if eqb (r .row) k then r .name else name-in rs k
 
 unfoldable pub name : ℕ → List ℕ
-name k = name-in rows k
+name k = name-in every-row k
 
--- What row k is under a parent, in a profile: a list of rows. There is one today, `rows`. A profile says what its rows hold; their names are those of `rows`. (A number that is no
--- row's would be a leaf that no text is right for.)
-unfoldable pub row-of : List Row → (parent k : ℕ) → Row
-row-of [] parent k = record { row = k; under = parent; name = []; holds = text 0 }
-row-of (r ∷ rs) parent k =
-    if eqb (r .row) k && (eqb (r .under) 0 || eqb (r .under) parent) then r else row-of rs parent k
+-- What row k is under a parent, among some rows and in a profile. (A number that is no row's, which no place has, would be a leaf for which no text has a right value.)
+unfoldable pub row-in : List Row → (parent k : ℕ) → Row
+row-in [] parent k = record { row = k; under = parent; name = []; holds = text 0 }
+row-in (r ∷ rs) parent k =
+    if eqb (r .row) k && (eqb (r .under) 0 || eqb (r .under) parent) then r else row-in rs parent k
+
+unfoldable pub row-of : Profile → (parent k : ℕ) → Row
+row-of profile parent k = row-in (profile .rows) parent k
 
 -- the longest length of a leaf's text
 unfoldable pub longest-of : Contents → ℕ
@@ -131,7 +168,7 @@ head-of (holding-elements h ts) = h
 
 -- An element conforms to a row, in a profile: a leaf holds text that is right for it, a group holds children of rows that are arranged as it says, each
 -- named as its row and conforming to it.
-module _ (profile : List Row) (Right : (parent : ℕ) → Row → Head → List ℕ → Type 0) where
+module _ (profile : Profile) (Right : (parent : ℕ) → Row → Head → List ℕ → Type 0) where
   unfoldable mutual
     pub Conforms : Element → (parent : ℕ) → Row → Type 0
     Conforms (holding-text h w) parent r =

@@ -71,6 +71,15 @@ date-and-time w =
     shaped "0000-00-00T00:00:00" w && date (piece 0 10 w) && leb (number (piece 11 2 w)) 23 && leb (number (piece 14 2 w)) 59 &&
     leb (number (piece 17 2 w)) 59
 
+-- Row 58: a date and time as in row 5, then its zone: `Z`, or a sign and `hh:mm` from 00:00 to 14:00, minutes up to 59.
+unfoldable pub zone : List ℕ → Bool
+zone w =
+    same w (bytes "Z") ||
+    ((shaped "+00:00" w || shaped "-00:00" w) && leb (number (piece 4 2 w)) 59 && leb (number (piece 1 2 w) * 60 + number (piece 4 2 w)) (14 * 60))
+
+unfoldable pub date-time-zone : List ℕ → Bool
+date-time-zone w = date-and-time (take 19 w) && zone (drop 19 w)
+
 -- Rows 6, 14: digits; leading zeros allowed. The count is their number.
 unfoldable pub count : List ℕ → Bool
 count w = leb 1 (length w) && every digit w
@@ -133,7 +142,7 @@ iban w =
     eqb (read-after 0 (moved w) % 97) 1
 
 -- The row of a leaf decides its rule; the row above it where it matters: row 19 is `SEPA`, and under row 53 `SCOR`. Row 42 has its currency. Names, free text,
--- issuers and references are free. (No other row is a leaf.)
+-- issuers and references are free. (These are the leaves of both profiles; no text is right for any other row.)
 unfoldable pub right-for : (parent row : ℕ) (currency text : List ℕ) → Bool
 right-for parent row currency w =
     if among row (4 ∷ 11 ∷ 39 ∷ 40 ∷ []) then id w else
@@ -146,6 +155,8 @@ right-for parent row currency w =
     if eqb row 21 then purpose w else
     if eqb row 23 then date w else
     if eqb row 5 then date-and-time w else
+    if eqb row 57 then same w (bytes "INST") else
+    if eqb row 58 then date-time-zone w else
     if among row (6 ∷ 14 ∷ []) then count w else
     if among row (7 ∷ 15 ∷ []) then money w else
     if eqb row 42 then amount w && same currency (bytes "EUR") else

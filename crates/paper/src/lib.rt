@@ -1,4 +1,4 @@
-// The rules (docs/RULES.md) as definitions (specs/). The enums of the answers stand here; specs/Answers.antt gives the paper's numbers for each of their cases.
+// The rules (docs/RULES.md) as definitions (specs/). What callers name and the enums of the answers stand here; specs/Answers.antt gives the paper's profile, and its numbers for each of their cases.
 
 // Sizes (specs/Sizes.antt): the bytes of the largest message, the numbers of the least table, the most blocks and payments.
 pub const LARGEST_MESSAGE: usize = 32768;
@@ -8,6 +8,11 @@ pub const LEAST_TABLE: usize = 1024;
 pub const MOST_BLOCKS: usize = 16;
 
 pub const MOST_PAYMENTS: usize = 64;
+
+// The profile that a caller names: the instant one, or else the first.
+pub struct Profile {
+    pub instant: bool,
+}
 
 // Why a message is refused.
 pub enum Fault {
