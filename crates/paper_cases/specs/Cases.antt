@@ -1,5 +1,5 @@
--- The cases that are computed, over the definitions: those that were asked to be proved (P), in their order; the verdict on M1 itself, its table, its fields' parts
--- and the host's bytes.
+-- The cases that are computed, over the definitions. Under the first profile: those that were asked to be proved (P), in their order; the verdict on M1 itself, its
+-- table, its fields' parts and the host's bytes. Under the instant profile: I1, its table and field 4. Under both: some refusals in which they agree.
 use Prim.Native.Nat.{ℕ, zero, suc}
 use Prim.Native.String.{String}
 use mathlib.Core.List.{List, [], _∷_, _++_}
@@ -7,16 +7,17 @@ use mathlib.Core.Bool.{Bool, true, false}
 use mathlib.Core.Path.{_≡_}
 use Rattle.paper.specs.Bytes.{bytes}
 use Rattle.paper.specs.Form.{root-tag}
-use Rattle.paper.specs.Rows.{rows}
-use Rattle.paper.specs.Values.{amount, iban, date}
+use Rattle.paper.specs.Rows.{Profile}
+use Rattle.paper.specs.Values.{amount, iban, date, date-time-zone}
 use Rattle.paper.specs.Sizes.{least-table}
 use Rattle.paper.specs.Refusals.{MessageAnswer, accepted, refused, outcome-alone, outcome, verdict}
 use Rattle.paper.specs.Table.{table-after}
 use Rattle.paper.specs.Fields.{field-part}
-use Rattle.paper.specs.Regrouping.{RegroupingAnswer, answered, regrouping, differing-part}
-use Rattle.paper.specs.Host.{bytes-after}
+use Rattle.paper.specs.Regrouping.{RegroupingAnswer, message-refused, answered, regrouping, differing-part}
+use Rattle.paper.specs.Host.{profile-numbered, bytes-after}
+use Rattle.paper.specs.Answers.{profile-named}
 
--- Message M1, line by line, with what its neighbours change.
+-- Message M1, line by line, with what its neighbours change. Of a block and of a payment row 16 is given whole, or nothing where it has none; of a block what row 22 holds.
 unfoldable pub header : (id count sum : String) → List ℕ
 header id count sum =
     bytes "<GrpHdr><MsgId>" ++
@@ -26,27 +27,42 @@ header id count sum =
     (bytes "</NbOfTxs><CtrlSum>" ++
     (bytes sum ++ bytes "</CtrlSum><InitgPty><Nm>Trials</Nm></InitgPty></GrpHdr>\n")))))
 
-unfoldable pub block : (id count sum ultimate-debtor : String) → List ℕ
-block id count sum ultimate-debtor =
+unfoldable pub block-with : (type date : List ℕ) (id count sum ultimate-debtor : String) → List ℕ
+block-with type date id count sum ultimate-debtor =
     bytes "<PmtInf><PmtInfId>" ++
     (bytes id ++
     (bytes "</PmtInfId><PmtMtd>TRF</PmtMtd><NbOfTxs>" ++
     (bytes count ++
     (bytes "</NbOfTxs><CtrlSum>" ++
     (bytes sum ++
-    (bytes "</CtrlSum><PmtTpInf><SvcLvl><Cd>SEPA</Cd></SvcLvl></PmtTpInf><ReqdExctnDt><Dt>2026-03-04</Dt></ReqdExctnDt><Dbtr><Nm>Institute</Nm></Dbtr>" ++
+    (bytes "</CtrlSum>" ++
+    (type ++
+    (bytes "<ReqdExctnDt>" ++
+    (date ++
+    (bytes "</ReqdExctnDt><Dbtr><Nm>Institute</Nm></Dbtr>" ++
     (bytes "<DbtrAcct><Id><IBAN>LU566541234567890123</IBAN></Id></DbtrAcct><DbtrAgt><FinInstnId><BICFI>AAAALULL</BICFI></FinInstnId></DbtrAgt>" ++
-    (bytes ultimate-debtor ++ bytes "\n"))))))))
+    (bytes ultimate-debtor ++ bytes "\n"))))))))))))
 
-unfoldable pub payment : (end-to-end-id amount creditor account : String) → List ℕ
-payment end-to-end-id amount creditor account =
+unfoldable pub sepa : List ℕ
+sepa = bytes "<PmtTpInf><SvcLvl><Cd>SEPA</Cd></SvcLvl></PmtTpInf>"
+
+unfoldable pub block : (id count sum ultimate-debtor : String) → List ℕ
+block id count sum ultimate-debtor = block-with sepa (bytes "<Dt>2026-03-04</Dt>") id count sum ultimate-debtor
+
+unfoldable pub payment-with : (type : List ℕ) (end-to-end-id amount creditor account : String) → List ℕ
+payment-with type end-to-end-id amount creditor account =
     bytes "<CdtTrfTxInf><PmtId><EndToEndId>" ++
     (bytes end-to-end-id ++
-    (bytes "</EndToEndId></PmtId><Amt><InstdAmt Ccy=\"EUR\">" ++
+    (bytes "</EndToEndId></PmtId>" ++
+    (type ++
+    (bytes "<Amt><InstdAmt Ccy=\"EUR\">" ++
     (bytes amount ++
     (bytes "</InstdAmt></Amt><Cdtr><Nm>" ++
     (bytes creditor ++
-    (bytes "</Nm></Cdtr><CdtrAcct><Id><IBAN>" ++ (bytes account ++ bytes "</IBAN></Id></CdtrAcct></CdtTrfTxInf>\n")))))))
+    (bytes "</Nm></Cdtr><CdtrAcct><Id><IBAN>" ++ (bytes account ++ bytes "</IBAN></Id></CdtrAcct></CdtTrfTxInf>\n")))))))))
+
+unfoldable pub payment : (end-to-end-id amount creditor account : String) → List ℕ
+payment end-to-end-id amount creditor account = payment-with [] end-to-end-id amount creditor account
 
 unfoldable pub order : (header blocks : List ℕ) → List ℕ
 order header blocks =
@@ -76,12 +92,29 @@ m3 =
     order (header "M1" "2" "35.10")
     (block "B1" "1" "12.5" study-12 ++ (weis ++ (bytes "</PmtInf>" ++ (block "B2" "1" "22.60" "" ++ klein))))
 
+-- I1 is M1 with a local instrument in its row 16 and a date and time in its row 22; so with other rows 16 and 22. I2 is I1 with its payments exchanged.
+unfoldable pub inst : List ℕ
+inst = bytes "<PmtTpInf><SvcLvl><Cd>SEPA</Cd></SvcLvl><LclInstrm><Cd>INST</Cd></LclInstrm></PmtTpInf>"
+
+unfoldable pub half-past-nine : List ℕ
+half-past-nine = bytes "<DtTm>2026-03-04T09:30:00+01:00</DtTm>"
+
+unfoldable pub i1-with : (type date : List ℕ) → List ℕ
+i1-with type date = order (header "M1" "2" "35.10") (block-with type date "B1" "2" "35.1" study-12 ++ (weis ++ klein))
+
+unfoldable pub i1 : List ℕ
+i1 = i1-with inst half-past-nine
+
+unfoldable pub i2 : List ℕ
+i2 = order (header "M1" "2" "35.10") (block-with inst half-past-nine "B1" "2" "35.1" study-12 ++ (klein ++ weis))
+
 -- the list of two ordinals
 unfoldable pub list : (first second : ℕ) → List ℕ
 list first second = bytes "RGL" ++ (0 ∷ 1 ∷ 0 ∷ 2 ∷ 0 ∷ first ∷ 0 ∷ second ∷ [])
 
 -- A case: the verdict on a message with a table that is long enough; what a value's rule says; the answer to a regrouping; the table after a message, laid over
--- an old one, and its bytes; the start and length of a field's part; those of the part that is handed back after a regrouping.
+-- an old one, and its bytes; the start and length of a field's part; those of the part that is handed back after a regrouping. It holds under a profile. Two name
+-- their own: the verdict on a message under the profile that is named by a number, as a host in C does, or by whether it is the instant one, as the code does.
 pub data Case : Type 0 where
   message : List ℕ → MessageAnswer → Case
   value : (List ℕ → Bool) → String → Bool → Case
@@ -89,18 +122,25 @@ pub data Case : Type 0 where
   table bytes-of : (message old after : List ℕ) → Case
   field : (message : List ℕ) (payment field start size : ℕ) → Case
   differing : (first second file : List ℕ) (start size : ℕ) → Case
+  by-number : (profile-number : ℕ) → List ℕ → MessageAnswer → Case
+  by-name : (instant : Bool) → List ℕ → MessageAnswer → Case
 
-unfoldable pub Holds : Case → Type 0
-Holds (message s a) = verdict rows least-table s ≡ a
-Holds (value rule w allowed) = rule (bytes w) ≡ allowed
-Holds (moved first second file a) = regrouping rows first second file ≡ a
-Holds (table s old after) = table-after (outcome rows least-table s) old ≡ after
-Holds (bytes-of s old after) = bytes-after (outcome rows least-table s) old ≡ after
-Holds (field s payment number start size) = field-part (outcome-alone rows s) payment number ≡ record { start = start; size = size }
-Holds (differing first second file start size) = differing-part rows first second file ≡ record { start = start; size = size }
+unfoldable pub Holds : Profile → Case → Type 0
+Holds profile (message s a) = verdict profile least-table s ≡ a
+Holds profile (value rule w allowed) = rule (bytes w) ≡ allowed
+Holds profile (moved first second file a) = regrouping profile first second file ≡ a
+Holds profile (table s old after) = table-after (outcome profile least-table s) old ≡ after
+Holds profile (bytes-of s old after) = bytes-after (outcome profile least-table s) old ≡ after
+Holds profile (field s payment number start size) = field-part (outcome-alone profile s) payment number ≡ record { start = start; size = size }
+Holds profile (differing first second file start size) = differing-part profile first second file ≡ record { start = start; size = size }
+Holds profile (by-number n s a) = verdict (profile-numbered n) least-table s ≡ a
+Holds profile (by-name instant s a) = verdict (profile-named (record { instant = instant })) least-table s ≡ a
 
 unfoldable pub refused-with : (number element offset : ℕ) → MessageAnswer
 refused-with number element offset = refused (record { number = number; element = element; offset = offset })
+
+unfoldable pub message-refused-with : (whose number element offset : ℕ) → RegroupingAnswer
+message-refused-with whose number element offset = message-refused whose (record { number = number; element = element; offset = offset })
 
 -- so many times one number
 unfoldable pub times : ℕ → ℕ → List ℕ
@@ -172,3 +212,56 @@ more-cases =
     field m3 1 8 0 0 ∷
     differing m1 m2 (list 0 1) 662 2 ∷
     differing m1 m2 (list 1 0) 0 0 ∷ []
+
+-- I1's 32 numbers: 9 and 10 are all that row 16 holds, the local instrument too.
+unfoldable pub i1-numbers : List ℕ
+i1-numbers =
+    0 ∷ 717 ∷ 2 ∷ 834 ∷ 20 ∷ 796 ∷ 6 ∷ 659 ∷ 8 ∷ 341 ∷ 66 ∷ 534 ∷ 20 ∷ 12 ∷ 50 ∷ 685 ∷
+    0 ∷ 924 ∷ 2 ∷ 1043 ∷ 20 ∷ 1004 ∷ 7 ∷ 659 ∷ 8 ∷ 341 ∷ 66 ∷ 534 ∷ 20 ∷ 22 ∷ 60 ∷ 892 ∷ []
+
+-- Under the instant profile.
+unfoldable pub instant-cases : List Case
+instant-cases =
+    message i1 (accepted 1 2 3510) ∷
+    message m1 (refused-with 4 56 371) ∷
+    message (i1-with inst (bytes "<Dt>2026-03-04</Dt>")) (accepted 1 2 3510) ∷
+    message (i1-with inst (bytes "<Dt>2026-03-04</Dt><DtTm>2026-03-04T09:30:00+01:00</DtTm>")) (refused-with 3 22 450) ∷
+    message (i1-with inst (bytes "<DtTm>2026-03-04T09:30:00+01:00</DtTm><Dt>2026-03-04</Dt>")) (refused-with 3 22 469) ∷
+    message (i1-with inst (bytes "<DtTm>2026-03-04T09:30:00+14:01</DtTm>")) (refused-with 8 58 431) ∷
+    table i1 (times 34 1) (i1-numbers ++ (1 ∷ 1 ∷ [])) ∷
+    field i1 1 4 437 25 ∷
+    moved i1 i2 (list 1 0) (answered 0 0 0) ∷
+    moved m1 m2 (list 1 0) (message-refused-with 1 4 56 371) ∷
+    -- the value of row 58, which goes by its text alone
+    value date-time-zone "2026-03-04T09:30:00+14:00" true ∷
+    value date-time-zone "2026-03-04T09:30:00Z" true ∷
+    value date-time-zone "2026-03-04T09:30:00-00:00" true ∷
+    value date-time-zone "2026-03-04T09:30:00-14:01" false ∷
+    value date-time-zone "2026-03-04T09:30:00+13:60" false ∷
+    value date-time-zone "2026-03-04T09:30:00z" false ∷
+    value date-time-zone "2026-03-04T09:30:00" false ∷
+    value date-time-zone "2026-02-29T09:30:00Z" false ∷
+    -- which profile is meant: the number 1 is the instant one, any other the first
+    by-number 0 m1 (accepted 1 2 3510) ∷
+    by-number 1 i1 (accepted 1 2 3510) ∷
+    by-number 2 i1 (refused-with 3 16 371) ∷
+    by-number 257 i1 (refused-with 3 16 371) ∷
+    by-name false m1 (accepted 1 2 3510) ∷
+    by-name true i1 (accepted 1 2 3510) ∷ []
+
+-- Under the first profile: I1, and M1 with a local instrument alone or a date and time alone.
+unfoldable pub first-cases : List Case
+first-cases =
+    message i1 (refused-with 3 16 371) ∷
+    message (i1-with inst (bytes "<Dt>2026-03-04</Dt>")) (refused-with 3 16 371) ∷
+    message (i1-with sepa half-past-nine) (refused-with 3 22 395) ∷
+    moved i1 i2 (list 1 0) (message-refused-with 1 3 16 371) ∷ []
+
+-- Under both: the form; rows in which they are alike; that row 16 must stand somewhere.
+unfoldable pub both-cases : List Case
+both-cases =
+    message [] (refused-with 2 0 0) ∷
+    message (bytes "<Document>") (refused-with 2 0 9) ∷
+    message (root-tag ++ bytes "</Document>") (refused-with 4 2 65) ∷
+    message (i1-with (bytes "<PmtTpInf></PmtTpInf>") half-past-nine) (refused-with 4 18 341) ∷
+    message (i1-with [] (bytes "<Dt>2026-03-04</Dt>")) (refused-with 10 16 579) ∷ []

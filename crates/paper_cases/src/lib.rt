@@ -1,1 +1,1 @@
-// Cases that are computed from the definitions, under two theorems (specs/Cases.antt, proofs/Proved.antt).
+// Cases that are computed from the definitions, under one theorem for each list (specs/Cases.antt, proofs/Proved.antt).

@@ -8,12 +8,12 @@ use lib.ListN.{length, getD, drop}
 use lib.Dec.{eqb}
 use Rattle.paper.specs.Bytes.{if_then_else_, bytes, each}
 use Rattle.paper.specs.Form.{root-tag}
-use Rattle.paper.specs.Rows.{rows}
+use Rattle.paper.specs.Rows.{Profile}
 use Rattle.paper.specs.Sizes.{least-table}
 use Rattle.paper.specs.Refusals.{MessageAnswer, Outcome, outcome-alone, outcome, verdict}
 use Rattle.paper.specs.Table.{Part, table-after}
 use Rattle.paper.specs.Fields.{Value, field-part}
-use Rattle.paper.specs.Regrouping.{RegroupingAnswer, message-refused, of-outcomes, regrouping, differing-part, file-of, often}
+use Rattle.paper.specs.Regrouping.{RegroupingAnswer, of-outcomes, regrouping, differing-part, file-of, often}
 use Rattle.paper_cases.specs.Cases.{header, m1}
 
 -- a second message for a regrouping, and the answer
@@ -50,28 +50,25 @@ no-parts =
     part 0 0 ∷ part 0 0 ∷ part 0 0 ∷ part 0 0 ∷ part 0 0 ∷ part 0 0 ∷ part 0 0 ∷ part 0 0 ∷ part 0 0 ∷ part 0 0 ∷
     part 0 0 ∷ part 0 0 ∷ part 0 0 ∷ part 0 0 ∷ part 0 0 ∷ part 0 0 ∷ part 0 0 ∷ part 0 0 ∷ part 0 0 ∷ []
 
-unfoldable pub message-refused-with : (whose number element offset : ℕ) → RegroupingAnswer
-message-refused-with whose number element offset = message-refused whose (record { number = number; element = element; offset = offset })
-
 -- what is answered to regroupings of one first message, and what should be
-unfoldable pub answers : (first : Outcome) (file : List ℕ) → List Second → List RegroupingAnswer
-answers first file [] = []
-answers first file (to second a ∷ others) = of-outcomes first (outcome-alone rows second) file ∷ answers first file others
+unfoldable pub answers : Profile → (first : Outcome) (file : List ℕ) → List Second → List RegroupingAnswer
+answers profile first file [] = []
+answers profile first file (to second a ∷ others) = of-outcomes first (outcome-alone profile second) file ∷ answers profile first file others
 
 unfoldable pub expected : List Second → List RegroupingAnswer
 expected [] = []
 expected (to second a ∷ others) = a ∷ expected others
 
-unfoldable pub Holds : Case → Type 0
-Holds (message s a) = verdict rows least-table s ≡ a
-Holds (lent n s a) = verdict rows n s ≡ a
-Holds (table s old after) = table-after (outcome rows least-table s) old ≡ after
-Holds (parts s payment of-fields) = all-parts (outcome-alone rows s) payment ≡ of-fields
-Holds (moved first second file a) = regrouping rows first second file ≡ a
-Holds (each-moved first file seconds) = answers (outcome-alone rows first) file seconds ≡ expected seconds
-Holds (differing first second file start size) = differing-part rows first second file ≡ part start size
-Holds (filed ordinals file) = file-of ordinals ≡ file
-Holds (often-is p ps n) = often p ps ≡ n
+unfoldable pub Holds : Profile → Case → Type 0
+Holds profile (message s a) = verdict profile least-table s ≡ a
+Holds profile (lent n s a) = verdict profile n s ≡ a
+Holds profile (table s old after) = table-after (outcome profile least-table s) old ≡ after
+Holds profile (parts s payment of-fields) = all-parts (outcome-alone profile s) payment ≡ of-fields
+Holds profile (moved first second file a) = regrouping profile first second file ≡ a
+Holds profile (each-moved first file seconds) = answers profile (outcome-alone profile first) file seconds ≡ expected seconds
+Holds profile (differing first second file start size) = differing-part profile first second file ≡ part start size
+Holds profile (filed ordinals file) = file-of ordinals ≡ file
+Holds profile (often-is p ps n) = often p ps ≡ n
 
 -- a text begins with another
 unfoldable pub begins-with : (front text : List ℕ) → Bool

@@ -6,8 +6,8 @@ use mathlib.Core.Option.{none, some}
 use Rattle.paper.specs.Bytes.{bytes}
 use Rattle.paper.specs.Fields.{absent, a-text, in-cents, free-text, reference}
 use Rattle.paper.specs.Regrouping.{answered}
-use Rattle.paper_cases.specs.Cases.{m1, m2, m3, m1-with, list}
-use Rattle.paper_cases_messages.specs.Changed.{Case, moved, each-moved, to, differing, filed, often-is, message-refused-with, replaced, but, m1-but, m4, m5, m5-but}
+use Rattle.paper_cases.specs.Cases.{m1, m2, m3, m1-with, list, message-refused-with}
+use Rattle.paper_cases_messages.specs.Changed.{Case, moved, each-moved, to, differing, filed, often-is, replaced, but, m1-but, m4, m5, m5-but}
 
 -- the lists of ordinals 0, and 0, 1, 2
 unfoldable pub one-alone : List ℕ

@@ -7,7 +7,7 @@ use mathlib.Core.Option.{Option}
 use mathlib.Core.Bool.{Bool, true, false}
 use mathlib.Core.Path.{_≡_}
 use Rattle.paper.specs.Bytes.{if_then_else_, bytes, white, text-byte, capital, digit, letter, letter-or-digit, capital-or-digit, value-character}
-use Rattle.paper.specs.Rows.{rows, row-of}
+use Rattle.paper.specs.Rows.{Profile, first-profile, instant-profile, row-of}
 use Rattle.paper.specs.Values.{allowed, number, cents}
 use Rattle.paper.specs.Refusals.{Refusal, refuse, leaf-refusal}
 use Rattle.paper.specs.Host.{four-bytes, numbers-held}
@@ -38,9 +38,9 @@ unfoldable pub each-says : Bool → List String → List Bool
 each-says answer texts = map (λ w. answer) texts
 
 -- a leaf that stands at offset 7 and holds so many spaces
-unfoldable pub of-spaces : (parent row size : ℕ) → Option Refusal
-of-spaces parent row size =
-    leaf-refusal parent (row-of rows parent row) (record { name = []; currency = []; at = 7; start = 70; close = 70 + size }) (repeat size 32)
+unfoldable pub of-spaces : Profile → (parent row size : ℕ) → Option Refusal
+of-spaces profile parent row size =
+    leaf-refusal parent (row-of profile parent row) (record { name = []; currency = []; at = 7; start = 70; close = 70 + size }) (repeat size 32)
 
 pub data Case : Type 0 where
   -- texts that a row under a parent allows, and texts that it doesn't; the same for row 42 with a currency
@@ -48,8 +48,8 @@ pub data Case : Type 0 where
   allows-in refuses-in : (currency : String) (texts : List String) → Case
   -- what a text comes to in cents; the number that digits spell
   in-cents spells : String → ℕ → Case
-  -- a leaf's longest length
-  longest : (parent row size : ℕ) → Case
+  -- a leaf's longest length in a profile
+  longest : Profile → (parent row size : ℕ) → Case
   -- the bytes of a kind
   kind : (ℕ → Bool) → List ℕ → Case
   -- a table's number as four bytes; how many numbers so many bytes hold
@@ -64,8 +64,8 @@ Holds (refuses-in currency texts) = said-of 41 42 currency texts ≡ each-says f
 Holds (in-cents text n) = cents (bytes text) ≡ n
 Holds (spells text n) = number (bytes text) ≡ n
 -- An empty leaf is 6. Spaces alone are 8, too many spaces are 6.
-Holds (longest parent row size) =
-    of-spaces parent row 0 ∷ of-spaces parent row size ∷ of-spaces parent row (suc size) ∷ [] ≡
+Holds (longest profile parent row size) =
+    of-spaces profile parent row 0 ∷ of-spaces profile parent row size ∷ of-spaces profile parent row (suc size) ∷ [] ≡
     refuse 6 row 7 ∷ refuse 8 row 7 ∷ refuse 6 row 7 ∷ []
 Holds (kind k those-of-it) = all-of-kind k ≡ those-of-it
 Holds (written-as n four) = four-bytes n ≡ four
@@ -84,15 +84,19 @@ kind-cases =
     kind capital-or-digit (bytes "0123456789ABCDEFGHIJKLMNOPQRSTUVWXYZ") ∷
     kind value-character (bytes " '()+,-./0123456789:?ABCDEFGHIJKLMNOPQRSTUVWXYZabcdefghijklmnopqrstuvwxyz") ∷ []
 
--- The longest length of each leaf, under each row that it stands under.
+-- The longest length of each leaf, under each row that it stands under: of those that both profiles have, in either; of the instant profile's own.
+unfoldable pub shared-longest : Profile → List Case
+shared-longest profile =
+    longest profile 3 4 35 ∷ longest profile 3 5 19 ∷ longest profile 3 6 15 ∷ longest profile 3 7 18 ∷ longest profile 8 9 70 ∷
+    longest profile 10 11 35 ∷ longest profile 10 12 3 ∷ longest profile 10 13 5 ∷ longest profile 10 14 15 ∷ longest profile 10 15 18 ∷
+    longest profile 16 17 4 ∷ longest profile 18 19 4 ∷ longest profile 53 19 4 ∷ longest profile 20 21 4 ∷ longest profile 47 21 4 ∷ longest profile 22 23 10 ∷
+    longest profile 24 25 70 ∷ longest profile 44 25 70 ∷ longest profile 27 28 34 ∷ longest profile 30 31 11 ∷ longest profile 32 33 35 ∷
+    longest profile 34 35 70 ∷ longest profile 46 35 70 ∷ longest profile 10 36 4 ∷ longest profile 37 36 4 ∷ longest profile 38 39 35 ∷ longest profile 38 40 35 ∷
+    longest profile 41 42 18 ∷ longest profile 48 49 140 ∷ longest profile 52 54 35 ∷ longest profile 51 55 35 ∷ []
+
 unfoldable pub longest-cases : List Case
 longest-cases =
-    longest 3 4 35 ∷ longest 3 5 19 ∷ longest 3 6 15 ∷ longest 3 7 18 ∷ longest 8 9 70 ∷
-    longest 10 11 35 ∷ longest 10 12 3 ∷ longest 10 13 5 ∷ longest 10 14 15 ∷ longest 10 15 18 ∷
-    longest 16 17 4 ∷ longest 18 19 4 ∷ longest 53 19 4 ∷ longest 20 21 4 ∷ longest 47 21 4 ∷ longest 22 23 10 ∷
-    longest 24 25 70 ∷ longest 44 25 70 ∷ longest 27 28 34 ∷ longest 30 31 11 ∷ longest 32 33 35 ∷
-    longest 34 35 70 ∷ longest 46 35 70 ∷ longest 10 36 4 ∷ longest 37 36 4 ∷ longest 38 39 35 ∷ longest 38 40 35 ∷
-    longest 41 42 18 ∷ longest 48 49 140 ∷ longest 52 54 35 ∷ longest 51 55 35 ∷ []
+    shared-longest first-profile ++ (shared-longest instant-profile ++ (longest instant-profile 56 57 35 ∷ longest instant-profile 22 58 25 ∷ []))
 
 -- An id: no `/` first or last, no `//`. Nothing is trimmed.
 unfoldable pub id-cases : List Case
@@ -106,7 +110,7 @@ id-cases =
     allows 38 40 ("E1" ∷ "A/B" ∷ []) ∷
     refuses 38 40 ("/A" ∷ "A/" ∷ "A//B" ∷ " " ∷ []) ∷ []
 
--- Rows of one value or two: TRF, true or false, NORM or HIGH, SEPA under row 18 and SCOR under row 53, NOTPROVIDED, SLEV.
+-- Rows of one value or two: TRF, true or false, NORM or HIGH, SEPA under row 18 and SCOR under row 53, NOTPROVIDED, SLEV, INST.
 unfoldable pub word-cases : List Case
 word-cases =
     allows 10 12 ("TRF" ∷ []) ∷
@@ -124,7 +128,9 @@ word-cases =
     allows 10 36 ("SLEV" ∷ []) ∷
     refuses 10 36 ("SHAR" ∷ "slev" ∷ "SLE" ∷ "SLEVV" ∷ "" ∷ []) ∷
     allows 37 36 ("SLEV" ∷ []) ∷
-    refuses 37 36 ("DEBT" ∷ "slev" ∷ []) ∷ []
+    refuses 37 36 ("DEBT" ∷ "slev" ∷ []) ∷
+    allows 56 57 ("INST" ∷ []) ∷
+    refuses 56 57 ("INSTX" ∷ "INS" ∷ "inst" ∷ "SEPA" ∷ " INST" ∷ "INST " ∷ "    " ∷ "" ∷ []) ∷ []
 
 -- A purpose code: one to four capitals or digits.
 unfoldable pub purpose-cases : List Case
@@ -161,6 +167,25 @@ time-cases =
     refuses 3 5
     ("2026-03-02" ∷ "2026-03-02 08:30:00" ∷ "2026-03-02t08:30:00" ∷ "2026-03-02T08:30" ∷ "2026-03-02T08:30:0" ∷ "2026-03-02T08:30:000" ∷
     "2026-03-02T08.30.00" ∷ "2026-03-02T0830000" ∷ "2026-03-02T08:30:0:" ∷ "2026-03-02T0/:30:00" ∷ "2026-03-02T08:30:00Z" ∷ "2026/03/02T08:30:00" ∷ "" ∷ []) ∷ []
+
+-- The same with a zone: `Z`, or a sign and `hh:mm` from 00:00 to 14:00.
+unfoldable pub zone-cases : List Case
+zone-cases =
+    allows 22 58
+    ("2026-03-04T08:30:00Z" ∷ "2026-03-04T08:30:00+00:00" ∷ "2026-03-04T08:30:00-00:00" ∷ "2026-03-04T08:30:00+14:00" ∷ "2026-03-04T08:30:00-14:00" ∷
+    "2026-03-04T08:30:00+01:30" ∷ "2026-03-04T08:30:00+13:59" ∷ "2026-03-04T08:30:00-00:59" ∷ "2024-02-29T23:59:59Z" ∷ "2099-12-31T00:00:00-14:00" ∷ []) ∷
+    refuses 22 58
+    ("2026-03-04T08:30:00" ∷ "2026-03-04T08:30:00+14:01" ∷ "2026-03-04T08:30:00-14:01" ∷ "2026-03-04T08:30:00+15:00" ∷ "2026-03-04T08:30:00-24:00" ∷
+    "2026-03-04T08:30:00+13:60" ∷ "2026-03-04T08:30:00+09:60" ∷ "2026-03-04T08:30:00-00:60" ∷ "2026-03-04T08:30:00+00:99" ∷ []) ∷
+    refuses 22 58
+    ("2026-03-04T08:30:00z" ∷ "2026-03-04T08:30:00ZZ" ∷ "2026-03-04T08:30:00Z+00:00" ∷ "2026-03-04T08:30:00+00:00Z" ∷ "2026-03-04T08:30:00+1:00" ∷
+    "2026-03-04T08:30:00+01:0" ∷ "2026-03-04T08:30:00+0100" ∷ "2026-03-04T08:30:00+01" ∷ "2026-03-04T08:30:00+01:000" ∷ "2026-03-04T08:30:00+01.00" ∷
+    "2026-03-04T08:30:0001:00" ∷ "2026-03-04T08:30:00 01:00" ∷ "2026-03-04T08:30:00,01:00" ∷ "2026-03-04T08:30:00+0/:00" ∷ "2026-03-04T08:30:00+00:0:" ∷
+    "2026-03-04T08:30:00 Z" ∷ "2026-03-04T08:30:00Z " ∷ []) ∷
+    refuses 22 58
+    ("2026-02-29T08:30:00Z" ∷ "2026-04-31T08:30:00+01:00" ∷ "2100-01-01T08:30:00Z" ∷ "2026-03-04T24:00:00Z" ∷ "2026-03-04T23:60:00Z" ∷
+    "2026-03-04T23:59:60Z" ∷ "2026-03-04Z" ∷ "2026-03-04" ∷ "2026-03-04T08:30Z" ∷ "2026-03-04 08:30:00Z" ∷
+    "2026-03-04T08:30:00.0Z" ∷ "Z" ∷ "" ∷ "   " ∷ []) ∷ []
 
 -- A count: digits; leading zeros are allowed. A number that digits spell.
 unfoldable pub count-cases : List Case
@@ -304,9 +329,10 @@ border-cases =
     (purpose-cases ++
     (date-cases ++
     (time-cases ++
+    (zone-cases ++
     (count-cases ++
     (sum-cases ++
     (amount-cases ++
     (bic-cases ++
     (iban-cases ++
-    (free-cases ++ host-cases))))))))))))
+    (free-cases ++ host-cases)))))))))))))
