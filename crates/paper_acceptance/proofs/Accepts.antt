@@ -5,7 +5,7 @@ use mathlib.Core.Path.{_≡_}
 use mathlib.Core.Logic.{_↔_}
 use Rattle.paper.specs.Sizes.{least-table}
 use Rattle.paper.specs.Form.{Element}
-use Rattle.paper.specs.Rows.{Row}
+use Rattle.paper.specs.Rows.{Row, Profile}
 use Rattle.paper.specs.Refusals.{accepted-with, outcome-alone, outcome}
 use Rattle.paper.specs.Accepted.{Accepted}
 use Rattle.paper_grammar.proofs.Complete.{complete}
@@ -13,7 +13,7 @@ use Rattle.paper_grammar.proofs.Sound.{sound}
 use Rattle.paper_acceptance.proofs.Proper.{Proper}
 use Rattle.paper_acceptance.proofs.Outcome.{accepted-alone, accepted-with-table}
 
-module _ (profile : List Row) (proper : Proper profile) where
+module _ (profile : Profile) (proper : Proper profile) where
   -- the root of an accepted message is the one that its outcome has
   unfoldable pub accepted-from : (s : List ℕ) (root : Element) → outcome-alone profile s ≡ accepted-with root → Accepted profile s
   accepted-from s root e =

@@ -2,7 +2,7 @@
 use Prim.Native.Nat.{ℕ}
 use native.Mathlib.Omega.{arith}
 use mathlib.Core.List.{List, [], _∷_, _++_, List·Memᴰ, List·Memᴰ·head, List·Memᴰ·tail, List·Memᴰ·cases-cons, List·Memᴰ·eq-of-singleton, List·Memᴰ·not-nil, Memᴰ·append-left, Memᴰ·append-right}
-use mathlib.Core.Bool.{Bool, true, false}
+use mathlib.Core.Bool.{Bool, true, false, _&&_}
 use mathlib.Core.Option.{Option, none, some}
 use mathlib.Core.Path.{_≡_, refl, sym, subst}
 use mathlib.Core.Logic.{_⊎_, inl, inr, ⊎-elim}
@@ -10,9 +10,10 @@ use lib.Dec.{eqb}
 use borrow.Author.Tests.{eqb-true}
 use Rattle.paper.specs.Bytes.{if_then_else_, same}
 use Rattle.paper.specs.Rows.{Place, one, opt, plus, either, name, Arranged, end, exactly-one, there, not-there, the-last, one-before, chosen}
+use Rattle.paper.specs.Values.{among}
 use Rattle.paper.specs.Accepted.{All}
 use Rattle.paper.specs.Refusals.{Left, from-here, again, rows-at, required, left-of, missing-of, missing, Sought, never, early, found, past, named-in, seek-in, seek}
-use Rattle.paper.proofs.Laws.{false-not-true, some-not-none, same-says, same-tests, same-differs, all-member}
+use Rattle.paper.proofs.Laws.{false-not-true, some-not-none, both-left, both-right, among-says, same-says, same-tests, same-differs, all-member}
 
 -- Rows are arranged as what is left of an order says: where row k has been seen, they follow one of it.
 pub data ArrangedLeft : Left → List ℕ → Type 0 where
@@ -225,27 +226,42 @@ arranged-seek {k = k} {ks = ks} (behind-one {k = j} {ps = ps} a) h = ⊎-elim be
           apart = subst (λ (i : ℕ). Apart (i ∷ rows-of ps)) (sym e) h;
         })
 
--- A place that must be taken: what each arrangement has.
-unfoldable pub must : ℕ → List Place → Bool
-must k [] = false
-must k (one j ∷ ps) = if eqb k j then true else must k ps
-must k (opt j ∷ ps) = must k ps
-must k (plus j ∷ ps) = if eqb k j then true else must k ps
-must k (either js ∷ ps) = must k ps
+-- A place that must be taken, and by one of some rows: each arrangement has one of these.
+unfoldable pub all-among : (choice ks : List ℕ) → Bool
+all-among choice [] = true
+all-among choice (k ∷ ks) = among k choice && all-among choice ks
 
-must-or : (t : Bool) {k j : ℕ} {b : Bool} {ks : List ℕ} → eqb k j ≡ t → (if t then true else b) ≡ true → (b ≡ true → List·Memᴰ k ks) → List·Memᴰ k (j ∷ ks)
-must-or true {k} {j} e f below = List·Memᴰ·head (eqb-true k j e)
-must-or false e f below = List·Memᴰ·tail (below f)
+unfoldable pub must : (choice : List ℕ) → List Place → Bool
+must choice [] = false
+must choice (p ∷ ps) = if required p && all-among choice (rows-at p) then true else must choice ps
 
-pub must-be-there : {ps : List Place} {ks : List ℕ} (k : ℕ) → must k ps ≡ true → Arranged ps ks → List·Memᴰ k ks
-unfolding must
-must-be-there k e end = false-not-true e
-must-be-there k e (exactly-one {k = j} a) = must-or (eqb k j) refl e (λ f. must-be-there k f a)
-must-be-there k e (there a) = List·Memᴰ·tail (must-be-there k e a)
-must-be-there k e (not-there a) = must-be-there k e a
-must-be-there k e (the-last {k = j} a) = must-or (eqb k j) refl e (λ f. must-be-there k f a)
-must-be-there k e (one-before a) = List·Memᴰ·tail (must-be-there k e a)
-must-be-there k e (chosen m a) = List·Memᴰ·tail (must-be-there k e a)
+abbrev pub OneOf : (choice ks : List ℕ) → Type 0
+OneOf choice ks = (k : ℕ) × List·Memᴰ k choice × List·Memᴰ k ks
 
-pub one-chosen : {choice : List ℕ} {ps : List Place} {ks : List ℕ} → Arranged (either choice ∷ ps) ks → (k : ℕ) × List·Memᴰ k choice × List·Memᴰ k ks
-one-chosen (chosen {k} m a) = (k, m, List·Memᴰ·head refl)
+among-choice : (choice : List ℕ) {k : ℕ} {ks : List ℕ} → all-among choice ks ≡ true → List·Memᴰ k ks → List·Memᴰ k choice
+unfolding all-among
+among-choice choice {ks = []} e m = absurd (List·Memᴰ·not-nil m)
+among-choice choice {k} {ks = j ∷ ks} e m =
+    ⊎-elim (λ q. subst (λ (i : ℕ). List·Memᴰ i choice) (sym q) (among-says j choice (both-left (among j choice) _ e)))
+    (λ n. among-choice choice (both-right (among j choice) _ e) n) (List·Memᴰ·cases-cons m)
+
+further : {choice ks : List ℕ} (j : ℕ) → OneOf choice ks → OneOf choice (j ∷ ks)
+further j o = (o .0, o .1, List·Memᴰ·tail (o .2))
+
+here-or : (choice js : List ℕ) {j : ℕ} {ks : List ℕ} {b : Bool} → List·Memᴰ j js → (if all-among choice js then true else b) ≡ true → (b ≡ true → OneOf choice ks)
+    → OneOf choice (j ∷ ks)
+here-or choice js {j} {ks} {b} m e below = go (all-among choice js) refl e
+  where
+    go : (t : Bool) → all-among choice js ≡ t → (if t then true else b) ≡ true → OneOf choice (j ∷ ks)
+    go true f e = (j, among-choice choice f m, List·Memᴰ·head refl)
+    go false f e = further j (below e)
+
+pub one-there : {ps : List Place} {ks : List ℕ} (choice : List ℕ) → must choice ps ≡ true → Arranged ps ks → OneOf choice ks
+unfolding must required rows-at
+one-there choice e end = false-not-true e
+one-there choice e (exactly-one {k} a) = here-or choice (k ∷ []) (List·Memᴰ·head refl) e (λ f. one-there choice f a)
+one-there choice e (there {k} a) = further k (one-there choice e a)
+one-there choice e (not-there a) = one-there choice e a
+one-there choice e (the-last {k} a) = here-or choice (k ∷ []) (List·Memᴰ·head refl) e (λ f. one-there choice f a)
+one-there choice e (one-before {k} a) = further k (one-there choice e a)
+one-there choice e (chosen {choice = js} m a) = here-or choice js m e (λ f. one-there choice f a)

@@ -8,7 +8,7 @@ use lib.Dec.{eqb, ltb}
 use lib.ListN.{length}
 use Rattle.paper.specs.Bytes.{if_then_else_, white, every}
 use Rattle.paper.specs.Form.{Head, Element, Elements, holding-text, holding-elements, []ᵉ, _∷ᵉ_}
-use Rattle.paper.specs.Rows.{Place, Contents, text, elements, Row, row-of, head-of}
+use Rattle.paper.specs.Rows.{Place, Contents, text, elements, Row, Profile, row-of, head-of}
 use Rattle.paper.specs.Payments.{Payment, text-of, all-of, blocks, block-id, payments, in-payment, in-block, total}
 use Rattle.paper.specs.Refusals.{Refusal, refuse, _or-else_, Left, from-here, missing, ends, only-white, first-at, Sought, never, early, found, seek, no-judgement, walk, walk-all, rows-refusal, values-refusal, sixty-fifth, too-many, limits-refusal, in-both, in-neither, usage-of, usage, usage-refusal, among-texts, repeated, ids-refusal, total-refusal, unless, block-counts, counts-refusal}
 use Rattle.paper_acceptance.proofs.OneWalk.{Kept, as-found, of-a-leaf, one-walk}
@@ -55,7 +55,7 @@ unfolding no-judgement only-white
 text-gives (text longest) parent r h w = gives-none
 text-gives (elements places) parent r h w = if-gives (every white w) (ends-gives (from-here places) (h .close)) (refuse-gives _ _ first-number)
 
-module _ (profile : List Row) where
+module _ (profile : Profile) where
   elements-gives : (holds : Contents) (r : Row) (h : Head) (ts : Elements)
       → ((places : List Place) → Gives three-four (walk-all profile no-judgement ts (r .row) (from-here places) (h .close)))
       → Gives three-four

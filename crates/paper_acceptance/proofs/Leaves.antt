@@ -5,20 +5,19 @@ use mathlib.Core.Bool.{Bool, true, false, _&&_}
 use mathlib.Core.Option.{Option, none, some}
 use mathlib.Core.Path.{_≡_, refl, sym, ap, _∙_}
 use lib.ListN.{take, drop, getD}
-use Rattle.paper.specs.Bytes.{bytes}
+use lib.Dec.{eqb}
+use Rattle.paper.specs.Bytes.{if_then_else_, same}
 use Rattle.paper.specs.Form.{Head, Element, holding-text, holding-elements}
-use Rattle.paper.specs.Rows.{Contents, text, elements, Row, leaf, group, group-under, rows, row-of, Arranged, Conforms, Conform}
-use Rattle.paper.specs.Values.{among}
-use Rattle.paper.specs.Payments.{Payment, text-of, follow, payments, in-payment, in-block, either-of, inherited}
-use Rattle.paper.specs.Refusals.{accepted-with, rows-at, outcome-alone}
+use Rattle.paper.specs.Rows.{Contents, text, elements, Row, Profile, row-of, Arranged, Conforms, Conform}
+use Rattle.paper.specs.Payments.{Payment, text-of, child, follow, payments, in-payment, in-block, either-of, inherited}
+use Rattle.paper.specs.Refusals.{accepted-with, among-texts, outcome-alone}
 use Rattle.paper.specs.Table.{part-of, pairs}
 use Rattle.paper.specs.Fields.{Field, plain, or-means, amount-field, remittance, fields, field-element, field-of}
 use Rattle.paper.specs.Accepted.{All, all-none, all-more, EachWith, each-none, each-more, AnyText, RowsKept, Accepted}
 use Rattle.paper.specs.Regrouping.{At, at-first, at-later}
-use Rattle.paper.proofs.Laws.{false-not-true, some-not-none, both-left, both-right, all-member, all-from}
-use Rattle.paper_acceptance.proofs.Arranged.{rows-of}
-use Rattle.paper_acceptance.proofs.Routes.{takes, steps, follow-conforms, EndsAs}
-use Rattle.paper_acceptance.proofs.Proper.{rows-proper}
+use Rattle.paper.proofs.Laws.{false-not-true, some-not-none, both, both-left, both-right, all-member, all-from}
+use Rattle.paper_acceptance.proofs.Routes.{takes, lacks, holds-text, leaf-route, child-absent, step}
+use Rattle.paper_acceptance.proofs.Proper.{Proper, one-route, block-leaf-routes, payment-leaf-routes}
 use Rattle.paper_acceptance.proofs.Present.{As, PaymentAs, payments-as}
 use Rattle.paper_acceptance.proofs.Accepts.{accepted-from}
 use Rattle.paper_acceptance.proofs.Texts.{Stands, PaymentInPlace, payments-in-place, pairs-stand, fields-stand, part-is-text}
@@ -37,86 +36,80 @@ either-leaf a-leaf k = a-leaf
 unfoldable pub leaf-pairs : List Bool
 leaf-pairs = true ∷ true ∷ true ∷ true ∷ false ∷ true ∷ []
 
--- a route leads to a leaf, if it leads anywhere, as a test
-unfoldable holds-text : Contents → Bool
-holds-text (text longest) = true
-holds-text (elements places) = false
+-- a route whose test says so leads to a leaf, if it leads anywhere
+module _ (profile : Profile) (proper : Proper profile) where
+  text-leaf : (t : Element) (parent : ℕ) (r : Row) → holds-text (r .holds) ≡ true → Conforms profile AnyText t parent r → LeafOrNone (some t)
+  unfolding Conforms holds-text
+  text-leaf (holding-text h w) parent r e c = a-leaf
+  text-leaf (holding-elements h ts) parent r e c = absurd (go (r .holds) e c)
+    where
+      go : (holds : Contents) → holds-text holds ≡ true
+          → (elim holds as (λ _. Type 0) [ text longest ↦ ⊥ | elements places ↦ (ks : List ℕ) × Arranged places ks × Conform profile AnyText ts (r .row) ks ]) → ⊥
+      go (text longest) e c = c
+      go (elements places) e c = false-not-true e
 
-unfoldable ends-in-text : List Row → (parent k : ℕ) → List ℕ → Bool
-ends-in-text profile parent k [] = holds-text (row-of profile parent k .holds)
-ends-in-text profile parent k (j ∷ js) = ends-in-text profile k j js
+  route-leaf : (parent k : ℕ) (route : List ℕ) (t : Element) → leaf-route profile parent k route ≡ true → As profile proper AnyText parent k t → LeafOrNone (follow route t)
+  unfolding leaf-route follow
+  route-leaf parent k [] t e c = text-leaf t parent (row-of profile parent k) e c
+  route-leaf parent k (j ∷ js) t e c = go (takes (row-of profile parent k) j) refl e (λ u f d. route-leaf k j js u f d)
+    where
+      below : (o : Option Element) → ((u : Element) → o ≡ some u → LeafOrNone (follow js u)) → LeafOrNone (elim o as (λ _. Option Element) [ none ↦ none | some u ↦ follow js u ])
+      below none f = nothing-there
+      below (some u) f = f u refl
 
-abbrev leaf-route : (parent k : ℕ) → List ℕ → Bool
-leaf-route parent k route = steps rows parent k route && ends-in-text rows parent k route
+      go : (b : Bool) → takes (row-of profile parent k) j ≡ b
+          → (if b then eqb (row-of profile parent k .row) k && leaf-route profile k j js else lacks (row-of profile parent k) j) ≡ true
+          → ((u : Element) → leaf-route profile k j js ≡ true → As profile proper AnyText k j u → LeafOrNone (follow js u))
+          → LeafOrNone (elim (child j t) as (λ _. Option Element) [ none ↦ none | some u ↦ follow js u ])
+      go true f e ih =
+          let its-own = both-left (eqb (row-of profile parent k .row) k) _ e in
+          below (child j t) (λ u g. ih u (both-right (eqb (row-of profile parent k .row) k) _ e) (step profile AnyText (proper .apart) parent k j t u (both its-own f) c g))
+      go false f e ih = rw (child-absent profile AnyText t parent (row-of profile parent k) j e c) nothing-there
 
-text-leaf : (t : Element) (parent : ℕ) (r : Row) → holds-text (r .holds) ≡ true → Conforms rows AnyText t parent r → LeafOrNone (some t)
-unfolding Conforms holds-text
-text-leaf (holding-text h w) parent r e c = a-leaf
-text-leaf (holding-elements h ts) parent r e c = absurd (go (r .holds) e c)
-  where
-    go : (holds : Contents) → holds-text holds ≡ true
-        → (elim holds as (λ _. Type 0) [ text longest ↦ ⊥ | elements places ↦ (ks : List ℕ) × Arranged places ks × Conform rows AnyText ts (r .row) ks ]) → ⊥
-    go (text longest) e c = c
-    go (elements places) e c = false-not-true e
+  module _ (p : Payment) (c : PaymentAs profile proper AnyText p) where
+    own-leaf : (route : List ℕ) → among-texts route payment-leaf-routes ≡ true → LeafOrNone (in-payment route p)
+    unfolding in-payment
+    own-leaf route m = route-leaf 10 37 route (p .own) (one-route (leaf-route profile 10 37) payment-leaf-routes (proper .payment-leaves) route m) (c .own-as)
 
-ends-as-leaf : (parent k : ℕ) (route : List ℕ) (u : Element) → ends-in-text rows parent k route ≡ true → EndsAs rows AnyText parent k route u → LeafOrNone (some u)
-unfolding ends-in-text EndsAs
-ends-as-leaf parent k [] u e c = text-leaf u parent (row-of rows parent k) e c
-ends-as-leaf parent k (j ∷ js) u e c = ends-as-leaf k j js u e c
+    block-leaf : (route : List ℕ) → among-texts route block-leaf-routes ≡ true → LeafOrNone (in-block route p)
+    unfolding in-block
+    block-leaf route m = route-leaf 2 10 route (p .block) (one-route (leaf-route profile 2 10) block-leaf-routes (proper .block-leaves) route m) (c .block-as)
 
-route-leaf : (parent k : ℕ) (route : List ℕ) (t : Element) → leaf-route parent k route ≡ true → As rows rows-proper AnyText parent k t → LeafOrNone (follow route t)
-route-leaf parent k route t e c = go (follow route t) refl
-  where
-    go : (o : Option Element) → follow route t ≡ o → LeafOrNone o
-    go none f = nothing-there
-    go (some u) f =
-        ends-as-leaf parent k route u (both-right (steps rows parent k route) _ e)
-        (follow-conforms rows AnyText (rows-proper .apart) parent k route t u (both-left (steps rows parent k route) _ e) c f)
+    inherited-leaf : (route : List ℕ) → among-texts route payment-leaf-routes ≡ true → among-texts route block-leaf-routes ≡ true → LeafOrNone (inherited route p)
+    unfolding inherited
+    inherited-leaf route m n = either-leaf (own-leaf route m) (block-leaf route n)
 
-module _ (p : Payment) (c : PaymentAs rows rows-proper AnyText p) where
-  own-leaf : (route : List ℕ) → leaf-route 10 37 route ≡ true → LeafOrNone (in-payment route p)
-  unfolding in-payment
-  own-leaf route e = route-leaf 10 37 route (p .own) e (c .own-as)
+    fields-leaves : All (λ f. LeafOrNone (f .element)) (fields p)
+    unfolding fields plain or-means amount-field remittance among-texts same
+    fields-leaves =
+        all-more (block-leaf _ refl)
+        (all-more (inherited-leaf _ refl refl)
+        (all-more (inherited-leaf _ refl refl)
+        (all-more (either-leaf (block-leaf _ refl) (block-leaf _ refl))
+        (all-more (block-leaf _ refl)
+        (all-more (block-leaf _ refl)
+        (all-more (either-leaf (block-leaf _ refl) (block-leaf _ refl))
+        (all-more (inherited-leaf _ refl refl)
+        (all-more (own-leaf _ refl)
+        (all-more (own-leaf _ refl)
+        (all-more (own-leaf _ refl)
+        (all-more (own-leaf _ refl)
+        (all-more (own-leaf _ refl)
+        (all-more (own-leaf _ refl)
+        (all-more (own-leaf _ refl)
+        (all-more (own-leaf _ refl)
+        (all-more (either-leaf (own-leaf _ refl) (own-leaf _ refl)) all-none))))))))))))))))
 
-  block-leaf : (route : List ℕ) → leaf-route 2 10 route ≡ true → LeafOrNone (in-block route p)
-  unfolding in-block
-  block-leaf route e = route-leaf 2 10 route (p .block) e (c .block-as)
-
-  inherited-leaf : (route : List ℕ) → leaf-route 10 37 route ≡ true → leaf-route 2 10 route ≡ true → LeafOrNone (inherited route p)
-  unfolding inherited
-  inherited-leaf route e f = either-leaf (own-leaf route e) (block-leaf route f)
-
-  fields-leaves : All (λ f. LeafOrNone (f .element)) (fields p)
-  unfolding fields plain or-means amount-field remittance rows row-of leaf group group-under bytes takes rows-of rows-at among steps ends-in-text holds-text
-  fields-leaves =
-      all-more (block-leaf _ refl)
-      (all-more (inherited-leaf _ refl refl)
-      (all-more (inherited-leaf _ refl refl)
-      (all-more (block-leaf _ refl)
-      (all-more (block-leaf _ refl)
-      (all-more (block-leaf _ refl)
-      (all-more (either-leaf (block-leaf _ refl) (block-leaf _ refl))
-      (all-more (inherited-leaf _ refl refl)
-      (all-more (own-leaf _ refl)
-      (all-more (own-leaf _ refl)
-      (all-more (own-leaf _ refl)
-      (all-more (own-leaf _ refl)
-      (all-more (own-leaf _ refl)
-      (all-more (own-leaf _ refl)
-      (all-more (own-leaf _ refl)
-      (all-more (own-leaf _ refl)
-      (all-more (either-leaf (own-leaf _ refl) (own-leaf _ refl)) all-none))))))))))))))))
-
-  -- of the pairs of the table, all but the fifth
-  pairs-leaves : EachWith (λ b o. b ≡ true → LeafOrNone o) leaf-pairs (pairs p)
-  unfolding leaf-pairs pairs rows row-of leaf group group-under bytes takes rows-of rows-at among steps ends-in-text holds-text
-  pairs-leaves =
-      each-more (λ _. own-leaf _ refl)
-      (each-more (λ _. own-leaf _ refl)
-      (each-more (λ _. own-leaf _ refl)
-      (each-more (λ _. inherited-leaf _ refl refl)
-      (each-more (λ e. false-not-true e)
-      (each-more (λ _. block-leaf _ refl) each-none)))))
+    -- of the pairs of the table, all but the fifth
+    pairs-leaves : EachWith (λ b o. b ≡ true → LeafOrNone o) leaf-pairs (pairs p)
+    unfolding leaf-pairs pairs among-texts same
+    pairs-leaves =
+        each-more (λ _. own-leaf _ refl)
+        (each-more (λ _. own-leaf _ refl)
+        (each-more (λ _. own-leaf _ refl)
+        (each-more (λ _. inherited-leaf _ refl refl)
+        (each-more (λ e. false-not-true e)
+        (each-more (λ _. block-leaf _ refl) each-none)))))
 
 -- The bytes of the part that an element holds are its text; of one that is absent nothing is said.
 pub record HasText (s : List ℕ) (o : Option Element) : Type 0 where
@@ -146,16 +139,16 @@ fields-have : {s : List ℕ} {fs : List Field} → All (λ f. Stands s (f .eleme
 fields-have all-none all-none = all-none
 fields-have (all-more i h) (all-more l k) = all-more (leaf-has i l) (fields-have h k)
 
-pub accepted-texts : {s : List ℕ} {root : Element} → outcome-alone rows s ≡ accepted-with root → All (PaymentTexts s) (payments root)
+pub accepted-texts : (profile : Profile) → Proper profile → {s : List ℕ} {root : Element} → outcome-alone profile s ≡ accepted-with root → All (PaymentTexts s) (payments root)
 unfolding accepted-from RowsKept
-accepted-texts {s} {root} o =
-    all-from (λ p m. texts p (all-member (payments-in-place (accepted .form)) m) (all-member (payments-as rows rows-proper AnyText root (accepted .tree .but-counts .rows)) m))
+accepted-texts profile proper {s} {root} o =
+    all-from (λ p m. texts p (all-member (payments-in-place (accepted .form)) m) (all-member (payments-as profile proper AnyText root (accepted .tree .but-counts .rows)) m))
   where
-    accepted : Accepted rows s
-    accepted = accepted-from rows rows-proper s root o
+    accepted : Accepted profile s
+    accepted = accepted-from profile proper s root o
 
-    texts : (p : Payment) → PaymentInPlace s p → PaymentAs rows rows-proper AnyText p → PaymentTexts s p
-    texts p i c = record { of-pairs = pairs-have (pairs-stand p i) (pairs-leaves p c); of-fields = fields-have (fields-stand p i) (fields-leaves p c) }
+    texts : (p : Payment) → PaymentInPlace s p → PaymentAs profile proper AnyText p → PaymentTexts s p
+    texts p i c = record { of-pairs = pairs-have (pairs-stand p i) (pairs-leaves profile proper p c); of-fields = fields-have (fields-stand p i) (fields-leaves profile proper p c) }
 
 -- What holds of each field of a payment, and of nothing, holds of the field that a number asks for.
 of-field : (P : Option Element → Type 0) → P none → (field : ℕ) (p : Payment) → All (λ f. P (f .element)) (fields p) → P (field-element field p)
@@ -182,8 +175,8 @@ field-part-is field at-first = refl
 field-part-is field (at-later a) = field-part-is field a
 
 -- The part of a field, by the payment's and the field's number: its bytes are the text of the field's element.
-pub accepted-field-text : (s : List ℕ) {root : Element} → outcome-alone rows s ≡ accepted-with root → (k field : ℕ) {p : Payment} {t : Element}
+pub accepted-field-text : (profile : Profile) → Proper profile → (s : List ℕ) {root : Element} → outcome-alone profile s ≡ accepted-with root → (k field : ℕ) {p : Payment} {t : Element}
     → At (payments root) k p → field-element field p ≡ some t
     → take (field-of (payments root) k field .size) (drop (field-of (payments root) k field .start) s) ≡ text-of t
-accepted-field-text s o k field {p} {t} a e =
-    rw (field-part-is field a) (of-field (HasText s) nothing-has field p (at-place (accepted-texts o) a .of-fields) .bytes-are t e)
+accepted-field-text profile proper s o k field {p} {t} a e =
+    rw (field-part-is field a) (of-field (HasText s) nothing-has field p (at-place (accepted-texts profile proper o) a .of-fields) .bytes-are t e)

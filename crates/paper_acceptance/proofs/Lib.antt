@@ -13,3 +13,4 @@ pub mod Present
 pub mod RightValues
 pub mod Texts
 pub mod Leaves
+pub mod AsBefore

@@ -8,7 +8,7 @@ use mathlib.Core.Path.{_≡_, refl, subst}
 use lib.ListN.{length}
 use Rattle.paper.specs.Bytes.{if_then_else_, value-character, every}
 use Rattle.paper.specs.Form.{Head, Element, Elements, holding-text, holding-elements, []ᵉ, _∷ᵉ_}
-use Rattle.paper.specs.Rows.{Place, Contents, text, elements, Row, row-of, longest-of, head-of}
+use Rattle.paper.specs.Rows.{Place, Contents, text, elements, Row, Profile, row-of, longest-of, head-of}
 use Rattle.paper.specs.Values.{allowed, lies-from}
 use Rattle.paper.specs.Refusals.{Refusal, refuse, _or-else_, Left, from-here, only-white, first-at, Sought, never, early, found, seek, no-judgement, leaf-refusal, walk, walk-all, rows-refusal, values-refusal}
 use Rattle.paper.proofs.Laws.{some-not-none}
@@ -42,7 +42,7 @@ unfolding no-judgement
 text-kept (text longest) parent r h w = leaf-kept parent r h w
 text-kept (elements places) parent r h w = as-found refl
 
-module _ (profile : List Row) where
+module _ (profile : Profile) where
   elements-kept : (holds : Contents) (r : Row) (h : Head) (ts : Elements)
       → ((places : List Place)
       → Kept (walk-all profile leaf-refusal ts (r .row) (from-here places) (h .close)) (walk-all profile no-judgement ts (r .row) (from-here places) (h .close)))
@@ -92,7 +92,7 @@ kept-none : {a b : Option Refusal} → Kept a b → a ≡ none → b ≡ none
 kept-none (as-found e) n = subst (λ (z : Option Refusal). z ≡ none) e n
 kept-none (of-a-leaf l) n = some-not-none n
 
-pub rows-too : (profile : List Row) (root : Element) → values-refusal profile root ≡ none → rows-refusal profile root ≡ none
+pub rows-too : (profile : Profile) (root : Element) → values-refusal profile root ≡ none → rows-refusal profile root ≡ none
 rows-too profile root e = kept-none (one-walk profile root) e
 
 -- something of 3 or 4, which is the first of them
@@ -107,5 +107,5 @@ kept-some {x = x} (of-a-leaf {x = y} m) n l =
     let z : y ≡ x = cc in
     absurd (above-five (subst (λ (r : Refusal). List·Memᴰ (r .number) (6 ∷ 7 ∷ 8 ∷ [])) z m) l)
 
-pub rows-first : (profile : List Row) (root : Element) {x : Refusal} → values-refusal profile root ≡ some x → x .number < 5 → rows-refusal profile root ≡ some x
+pub rows-first : (profile : Profile) (root : Element) {x : Refusal} → values-refusal profile root ≡ some x → x .number < 5 → rows-refusal profile root ≡ some x
 rows-first profile root e l = kept-some (one-walk profile root) e l

@@ -12,7 +12,7 @@ use Rattle.paper.specs.Bytes.{if_then_else_}
 use Rattle.paper.specs.Sizes.{largest-message, least-table}
 use Rattle.paper.specs.Form.{Element, OfTheForm, FirstImpossible}
 use Rattle.paper.specs.Computed.Reading.{Reading, root-is, stops-at, read}
-use Rattle.paper.specs.Rows.{Row}
+use Rattle.paper.specs.Rows.{Row, Profile}
 use Rattle.paper.specs.Values.{among}
 use Rattle.paper.specs.Refusals.{Refusal, _or-else_, table-refusal, size-refusal, tree-refusal, Outcome, refused-as, accepted-with, unless-refused, of-reading, outcome-alone, outcome, MessageAnswer, refused, accepted, answer-to, verdict}
 use Rattle.paper.specs.Accepted.{All, all-none, all-more, RowsKept, LimitsKept, ValuesRight, UsageKept, IdsApart, TotalFits, CountsTrue, Accepted}
@@ -125,15 +125,15 @@ size-gives : (s : List ℕ) → Gives (numbers for-size) (size-refusal s)
 unfolding size-refusal numbers
 size-gives s = if-gives (ltb largest-message (length s)) (refuse-gives 0 largest-message (List·Memᴰ·head refl)) gives-none
 
-table-holds : (profile : List Row) (n : ℕ) (s : List ℕ) → table-refusal n ≡ none ↔ StageHolds profile n s for-table
+table-holds : (profile : Profile) (n : ℕ) (s : List ℕ) → table-refusal n ≡ none ↔ StageHolds profile n s for-table
 unfolding StageHolds
 table-holds profile n s = table-kept n
 
-size-holds : (profile : List Row) (n : ℕ) (s : List ℕ) → size-refusal s ≡ none ↔ StageHolds profile n s for-size
+size-holds : (profile : Profile) (n : ℕ) (s : List ℕ) → size-refusal s ≡ none ↔ StageHolds profile n s for-size
 unfolding StageHolds
 size-holds profile n s = size-kept s
 
-module _ (profile : List Row) (proper : Proper profile) (n : ℕ) (s : List ℕ) where
+module _ (profile : Profile) (proper : Proper profile) (n : ℕ) (s : List ℕ) where
   abbrev H : Stage → Type 0
   H = StageHolds profile n s
 
@@ -268,12 +268,12 @@ module _ (profile : List Row) (proper : Proper profile) (n : ℕ) (s : List ℕ)
       back h = ap answer-to (long-and-short (h .0) (h .1) ∙ ap (of-reading profile) (refusal-is-stop s k (h .2)))
 
 -- a table of the least length is long enough
-long-alone : (profile : List Row) (s : List ℕ) → outcome profile least-table s ≡ outcome-alone profile s
+long-alone : (profile : Profile) (s : List ℕ) → outcome profile least-table s ≡ outcome-alone profile s
 unfolding outcome
 long-alone profile s = unless-none (table-kept least-table .1 (omega arith))
 
 -- No refusal has the number 0, also where no table is lent.
-pub not-zero : (profile : List Row) → Proper profile → (s : List ℕ) {r : Refusal} → outcome-alone profile s ≡ refused-as r → r .number ≡ 0 → ⊥
+pub not-zero : (profile : Profile) → Proper profile → (s : List ℕ) {r : Refusal} → outcome-alone profile s ≡ refused-as r → r .number ≡ 0 → ⊥
 unfolding verdict answer-to refused
 not-zero profile proper s {r} e z =
     let o : outcome profile least-table s ≡ refused-as r = long-alone profile s ∙ e in

@@ -11,24 +11,25 @@ use borrow.Author.Tests.{ltb-false, le-ltb}
 use lib.ListN.{length}
 use lib.Dec.{ltb}
 use Rattle.paper.specs.Sizes.{largest-message, least-table}
-use Rattle.paper.specs.Bytes.{if_then_else_}
+use Rattle.paper.specs.Bytes.{if_then_else_, same}
 use Rattle.paper.specs.Form.{Element}
 use Rattle.paper.specs.Computed.Reading.{Reading, root-is, stops-at, read}
-use Rattle.paper.specs.Rows.{Row}
+use Rattle.paper.specs.Rows.{Profile}
 use Rattle.paper.specs.Payments.{Payment, all-of, blocks}
-use Rattle.paper.specs.Refusals.{Refusal, refuse, Outcome, accepted-with, unless-refused, of-reading, tree-refusal, outcome-alone, outcome, size-refusal, table-refusal}
+use Rattle.paper.specs.Refusals.{Refusal, refuse, Outcome, accepted-with, unless-refused, of-reading, tree-refusal, outcome-alone, outcome, size-refusal, table-refusal, among-texts}
 use Rattle.paper.specs.Accepted.{All, all-none, all-more, AnyText, RowsKept, AcceptedTree}
 use Rattle.paper.proofs.Laws.{both-left, all-map}
 use Rattle.paper_acceptance.proofs.Rows.{neither, or-none, refuses}
 use Rattle.paper_acceptance.proofs.Routes.{steps, step-all}
-use Rattle.paper_acceptance.proofs.Proper.{Proper}
+use Rattle.paper_acceptance.proofs.Proper.{Proper, payment-route}
 use Rattle.paper_acceptance.proofs.Present.{As, stands, PaymentAs, blocks-as, payments-as}
 use Rattle.paper_acceptance.proofs.Stages.{HasAmount, own-elements, rows-kept, limits-kept, values-right, usage-kept, ids-apart, total-fits, counts-true}
 
 -- where the rows are kept, each payment has its amount
-module _ (profile : List Row) (proper : Proper profile) (root : Element) (kept : RowsKept profile root) where
+module _ (profile : Profile) (proper : Proper profile) (root : Element) (kept : RowsKept profile root) where
   has-amount : (t : Element) → As profile proper AnyText 10 37 t → HasAmount t
-  has-amount t c = stands profile proper AnyText 10 37 (41 ∷ 42 ∷ []) t (proper .amount) c
+  unfolding among-texts same
+  has-amount t c = stands profile proper AnyText 10 37 (41 ∷ 42 ∷ []) t (payment-route proper _ refl) c
 
   own-all : {ps : List Payment} → All (PaymentAs profile proper AnyText) ps → All HasAmount (map (λ p. p .own) ps)
   own-all all-none = all-none
@@ -44,7 +45,7 @@ module _ (profile : List Row) (proper : Proper profile) (root : Element) (kept :
       all-map (λ b c. all-map has-amount (step-all profile AnyText (proper .apart) 2 10 37 b (both-left _ _ (proper .to-payments)) c))
       (blocks-as profile proper AnyText root kept)
 
-module _ (profile : List Row) (proper : Proper profile) where
+module _ (profile : Profile) (proper : Proper profile) where
   -- all stages over the tree
   pub no-refusal-accepted : (root : Element) → tree-refusal profile root ≡ none → AcceptedTree profile root
   unfolding tree-refusal
@@ -106,7 +107,7 @@ pub table-kept : (n : ℕ) → table-refusal n ≡ none ↔ least-table ≤ n
 unfolding table-refusal
 table-kept n = within least-table n 14 0 0
 
-module _ (profile : List Row) (proper : Proper profile) where
+module _ (profile : Profile) (proper : Proper profile) where
   reading-accepted : (r : Reading) (root : Element) → of-reading profile r ≡ accepted-with root ↔ (r ≡ root-is root) × AcceptedTree profile root
   unfolding of-reading
   reading-accepted (stops-at n) root =

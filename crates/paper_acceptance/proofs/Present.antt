@@ -5,17 +5,19 @@ use mathlib.Core.Bool.{Bool, true, false}
 use mathlib.Core.Option.{Option, none, some}
 use mathlib.Core.Path.{_≡_, refl, sym, ap, _∙_, subst}
 use mathlib.Core.Logic.{⊎-elim, _⊎_, inl, inr}
+use Rattle.paper.specs.Bytes.{same}
 use Rattle.paper.specs.Form.{Head, Element}
-use Rattle.paper.specs.Rows.{Row, row-of, Conforms}
+use Rattle.paper.specs.Rows.{Row, Profile, row-of, Conforms}
 use Rattle.paper.specs.Payments.{Payment, all-of, child, follow, blocks, of-header, header-count, header-sum, block-id, block-count, block-sum, instructed-amount, payments, payments-of, payments-from, in-payment, in-block, either-of, inherited}
+use Rattle.paper.specs.Refusals.{among-texts}
 use Rattle.paper.specs.Fields.{plain, or-means, amount-field, remittance, fields}
 use Rattle.paper.specs.Table.{pairs, must-be-there, PairsThere}
 use Rattle.paper.specs.Accepted.{All, all-none, all-more, EachWith, each-none, each-more, There, AnyText, RowsKept, Used, UsageKept, AcceptedTree}
 use Rattle.paper.proofs.Laws.{false-not-true, some-not-none, both-left, both-right, all-joined, all-map}
-use Rattle.paper_acceptance.proofs.Routes.{steps, step-all, choice-there, follow-conforms, follow-there, EndsAs}
-use Rattle.paper_acceptance.proofs.Proper.{leads, Proper}
+use Rattle.paper_acceptance.proofs.Routes.{must-take, steps, step-all, choice-there, follow-conforms, follow-there, EndsAs}
+use Rattle.paper_acceptance.proofs.Proper.{leads, Proper, root-route, block-route, payment-route}
 
-module _ (profile : List Row) (proper : Proper profile) (Right : (parent : ℕ) → Row → Head → List ℕ → Type 0) where
+module _ (profile : Profile) (proper : Proper profile) (Right : (parent : ℕ) → Row → Head → List ℕ → Type 0) where
   -- an element that conforms to row k under a parent
   abbrev pub As : (parent k : ℕ) → Element → Type 0
   As parent k t = Conforms profile Right t parent (row-of profile parent k)
@@ -86,16 +88,16 @@ pub record LeavesThere (root : Element) : Type 0 where
   pub sum-of-each : All (λ b. There (block-sum b)) (blocks root)
   pub amount-of-each : All (λ p. There (instructed-amount (p .own))) (payments root)
 
-pub leaves-there : (profile : List Row) → Proper profile → (root : Element) → RowsKept profile root → LeavesThere root
-unfolding RowsKept of-header
+pub leaves-there : (profile : Profile) → Proper profile → (root : Element) → RowsKept profile root → LeavesThere root
+unfolding RowsKept of-header among-texts same
 leaves-there profile proper root kept =
     record {
-      count-there = stands profile proper AnyText 0 1 (2 ∷ 3 ∷ 6 ∷ []) root (proper .header-count) kept;
-      sum-there = stands profile proper AnyText 0 1 (2 ∷ 3 ∷ 7 ∷ []) root (proper .header-sum) kept;
-      id-of-each = each-block (λ b c. child-of 11 b (stands profile proper AnyText 2 10 (11 ∷ []) b (proper .block-id) c));
-      count-of-each = each-block (λ b c. child-of 14 b (stands profile proper AnyText 2 10 (14 ∷ []) b (proper .block-count) c));
-      sum-of-each = each-block (λ b c. child-of 15 b (stands profile proper AnyText 2 10 (15 ∷ []) b (proper .block-sum) c));
-      amount-of-each = all-map (λ p c. stands profile proper AnyText 10 37 (41 ∷ 42 ∷ []) (p .own) (proper .amount) (c .own-as)) (payments-as profile proper AnyText root kept);
+      count-there = stands profile proper AnyText 0 1 (2 ∷ 3 ∷ 6 ∷ []) root (root-route proper _ refl) kept;
+      sum-there = stands profile proper AnyText 0 1 (2 ∷ 3 ∷ 7 ∷ []) root (root-route proper _ refl) kept;
+      id-of-each = each-block (λ b c. child-of 11 b (stands profile proper AnyText 2 10 (11 ∷ []) b (block-route proper _ refl) c));
+      count-of-each = each-block (λ b c. child-of 14 b (stands profile proper AnyText 2 10 (14 ∷ []) b (block-route proper _ refl) c));
+      sum-of-each = each-block (λ b c. child-of 15 b (stands profile proper AnyText 2 10 (15 ∷ []) b (block-route proper _ refl) c));
+      amount-of-each = all-map (λ p c. stands profile proper AnyText 10 37 (41 ∷ 42 ∷ []) (p .own) (payment-route proper _ refl) (c .own-as)) (payments-as profile proper AnyText root kept);
     }
   where
     each-block : {P : Element → Type 0} → ((b : Element) → As profile proper AnyText 2 10 b → P b) → All P (blocks root)
@@ -107,23 +109,23 @@ unfolding either-of
 either-there {o = none} {q = q} h = ⊎-elim (λ t. some-not-none (sym (t .is-it))) (λ t. t) h
 either-there {o = some t} {q = q} h = record { it = t; is-it = refl }
 
-module _ (profile : List Row) (proper : Proper profile) (Right : (parent : ℕ) → Row → Head → List ℕ → Type 0) where
+module _ (profile : Profile) (proper : Proper profile) (Right : (parent : ℕ) → Row → Head → List ℕ → Type 0) where
   pairs-there : (p : Payment) → PaymentAs profile proper Right p → Used p → PairsThere p
-  unfolding PairsThere must-be-there pairs in-payment in-block inherited
+  unfolding PairsThere must-be-there pairs in-payment in-block inherited among-texts same
   pairs-there p c u =
-      each-more (λ _. stands profile proper Right 10 37 (38 ∷ 40 ∷ []) (p .own) (proper .end-to-end-id) (c .own-as))
-      (each-more (λ _. stands profile proper Right 10 37 (45 ∷ 27 ∷ 28 ∷ []) (p .own) (proper .creditor-iban) (c .own-as))
-      (each-more (λ _. stands profile proper Right 10 37 (44 ∷ 25 ∷ []) (p .own) (proper .creditor-name) (c .own-as))
+      each-more (λ _. stands profile proper Right 10 37 (38 ∷ 40 ∷ []) (p .own) (payment-route proper _ refl) (c .own-as))
+      (each-more (λ _. stands profile proper Right 10 37 (45 ∷ 27 ∷ 28 ∷ []) (p .own) (payment-route proper _ refl) (c .own-as))
+      (each-more (λ _. stands profile proper Right 10 37 (44 ∷ 25 ∷ []) (p .own) (payment-route proper _ refl) (c .own-as))
       (each-more (λ e. false-not-true e)
       (each-more (λ _. either-there (u .somewhere))
-      (each-more (λ _. stands profile proper Right 2 10 (26 ∷ 27 ∷ 28 ∷ []) (p .block) (proper .debtor-iban) (c .block-as)) each-none)))))
+      (each-more (λ _. stands profile proper Right 2 10 (26 ∷ 27 ∷ 28 ∷ []) (p .block) (block-route proper _ refl) (c .block-as)) each-none)))))
 
 -- two statements of each of a list
 both-of : {A : Type 0} {P Q R : A → Type 0} {l : List A} → ((a : A) → P a → Q a → R a) → All P l → All Q l → All R l
 both-of f all-none all-none = all-none
 both-of f (all-more p h) (all-more q k) = all-more (f _ p q) (both-of f h k)
 
-pub no-other-absent : (profile : List Row) → Proper profile → (root : Element) → AcceptedTree profile root → All PairsThere (payments root)
+pub no-other-absent : (profile : Profile) → Proper profile → (root : Element) → AcceptedTree profile root → All PairsThere (payments root)
 unfolding RowsKept UsageKept
 no-other-absent profile proper root a =
     both-of (pairs-there profile proper AnyText) (payments-as profile proper AnyText root (a .but-counts .rows)) (a .but-counts .usage)
@@ -147,55 +149,67 @@ follow-joined (j ∷ route) k t u v e f = go (child j t) refl e (λ w g. follow-
     go none p q below = some-not-none (sym q)
     go (some w) p q below = below w q
 
-module _ (profile : List Row) (proper : Proper profile) (Right : (parent : ℕ) → Row → Head → List ℕ → Type 0) where
+module _ (profile : Profile) (proper : Proper profile) (Right : (parent : ℕ) → Row → Head → List ℕ → Type 0) where
+  -- at the end of a route that leads to row k under a parent one of some rows must be there
+  one-at-end : (b : Element) → As profile proper Right 2 10 b → (route : List ℕ) (parent k : ℕ) (choice : List ℕ) → leads profile 2 10 route ≡ true
+      → ((u : Element) → EndsAs profile Right 2 10 route u → As profile proper Right parent k u) → must-take (row-of profile parent k) choice ≡ true
+      → (u : There (follow route b)) × (j : ℕ) × List·Memᴰ j choice × There (child j (u .it))
+  one-at-end b c route parent k choice l ends must =
+      let u = stands profile proper Right 2 10 route b l c in
+      let n = choice-there profile Right (u .it) parent (row-of profile parent k) choice must (ends (u .it) (ends-as profile proper Right 2 10 route b (u .it) l c (u .is-it))) in
+      (u, n .0, n .1, n .2)
+
+  -- of two rows the one or the other
+  either-row : (P : ℕ → Type 0) {Q : Type 0} {i j k : ℕ} → List·Memᴰ k (i ∷ j ∷ []) → P k → (P i → Q) → (P j → Q) → Q
+  either-row P m h f g = ⊎-elim (λ e. f (subst P e h)) (λ n. g (subst P (List·Memᴰ·eq-of-singleton n) h)) (List·Memᴰ·cases-cons m)
+
+  joined : (b : Element) (route : List ℕ) (u : There (follow route b)) (k : ℕ) → There (child k (u .it)) → There (follow (route ++ (k ∷ [])) b)
+  joined b route u k v = record { it = v .it; is-it = follow-joined route k b (u .it) (v .it) (u .is-it) (v .is-it) }
+
+  date-there : (b : Element) → As profile proper Right 2 10 b → There (either-of (follow (22 ∷ 23 ∷ []) b) (follow (22 ∷ 58 ∷ []) b))
+  unfolding EndsAs among-texts same
+  date-there b c =
+      let n = one-at-end b c (22 ∷ []) 10 22 (23 ∷ 58 ∷ []) (block-route proper _ refl) (λ u e. e) (proper .date-or-time) in
+      let u = n .0 in
+      either-row (λ k. There (child k (u .it))) (n .2) (n .3) (λ d. either-there (inl (joined b (22 ∷ []) u 23 d))) (λ t. either-there (inr (joined b (22 ∷ []) u 58 t)))
+
   agent-there : (b : Element) → As profile proper Right 2 10 b → There (either-of (follow (29 ∷ 30 ∷ 31 ∷ []) b) (follow (29 ∷ 30 ∷ 32 ∷ 33 ∷ []) b))
-  unfolding EndsAs
-  agent-there b c = go (choice-there profile Right (u .it) 29 (row-of profile 29 30) (31 ∷ 32 ∷ []) (proper .agent-or-not) conforms)
+  unfolding EndsAs among-texts same joined
+  agent-there b c =
+      let n = one-at-end b c (29 ∷ 30 ∷ []) 29 30 (31 ∷ 32 ∷ []) agent-leads (λ u e. e) (proper .bic-or-not) in
+      let u = n .0 in
+      either-row (λ k. There (child k (u .it))) (n .2) (n .3) (λ bic. either-there (inl (joined b (29 ∷ 30 ∷ []) u 31 bic))) (λ other. either-there (inr (not-provided u other)))
     where
-      u : There (follow (29 ∷ 30 ∷ []) b)
-      u = stands profile proper Right 2 10 (29 ∷ 30 ∷ []) b (proper .debtor-agent) c
+      agent-leads : leads profile 2 10 (29 ∷ 30 ∷ []) ≡ true
+      agent-leads = block-route proper _ refl
 
-      conforms : As profile proper Right 29 30 (u .it)
-      conforms = ends-as profile proper Right 2 10 (29 ∷ 30 ∷ []) b (u .it) (proper .debtor-agent) c (u .is-it)
-
-      bic : There (child 31 (u .it)) → There (follow (29 ∷ 30 ∷ 31 ∷ []) b)
-      bic v = record { it = v .it; is-it = follow-joined (29 ∷ 30 ∷ []) 31 b (u .it) (v .it) (u .is-it) (v .is-it) }
-
-      other : There (child 32 (u .it)) → There (follow (29 ∷ 30 ∷ 32 ∷ 33 ∷ []) b)
-      other v =
+      not-provided : (u : There (follow (29 ∷ 30 ∷ []) b)) → There (child 32 (u .it)) → There (follow (29 ∷ 30 ∷ 32 ∷ 33 ∷ []) b)
+      not-provided u v =
+          let conforms = ends-as profile proper Right 2 10 (29 ∷ 30 ∷ []) b (u .it) agent-leads c (u .is-it) in
           let d = follow-conforms profile Right (proper .apart) 29 30 (32 ∷ []) (u .it) (v .it) (proper .to-not-provided) conforms (follow-one 32 (u .it) (v .it) (v .is-it)) in
-          let w = child-of 33 (v .it) (stands profile proper Right 30 32 (33 ∷ []) (v .it) (proper .not-provided) d) in
-          record {
-            it = w .it;
-            is-it = follow-joined (29 ∷ 30 ∷ 32 ∷ []) 33 b (v .it) (w .it) (follow-joined (29 ∷ 30 ∷ []) 32 b (u .it) (v .it) (u .is-it) (v .is-it)) (w .is-it);
-          }
-
-      go : ((k : ℕ) × List·Memᴰ k (31 ∷ 32 ∷ []) × There (child k (u .it))) → There (either-of (follow (29 ∷ 30 ∷ 31 ∷ []) b) (follow (29 ∷ 30 ∷ 32 ∷ 33 ∷ []) b))
-      go (k, m, v) =
-          ⊎-elim (λ e. either-there (inl (bic (subst (λ (j : ℕ). There (child j (u .it))) e v))))
-          (λ n. either-there (inr (other (subst (λ (j : ℕ). There (child j (u .it))) (List·Memᴰ·eq-of-singleton n) v)))) (List·Memᴰ·cases-cons m)
+          joined b (29 ∷ 30 ∷ 32 ∷ []) (joined b (29 ∷ 30 ∷ []) u 32 v) 33 (child-of 33 (v .it) (stands profile proper Right 30 32 (33 ∷ []) (v .it) (proper .not-provided) d))
 
   some-fields-there : (p : Payment) → PaymentAs profile proper Right p → FieldsThere p
-  unfolding FieldsThere never-absent fields plain or-means amount-field remittance in-payment in-block inherited
+  unfolding FieldsThere never-absent fields plain or-means amount-field remittance in-payment in-block inherited among-texts same
   some-fields-there p c =
       each-more (λ e. false-not-true e)
       (each-more (λ e. false-not-true e)
       (each-more (λ e. false-not-true e)
-      (each-more (λ _. stands profile proper Right 2 10 (22 ∷ 23 ∷ []) (p .block) (proper .date) (c .block-as))
-      (each-more (λ _. stands profile proper Right 2 10 (24 ∷ 25 ∷ []) (p .block) (proper .debtor-name) (c .block-as))
-      (each-more (λ _. stands profile proper Right 2 10 (26 ∷ 27 ∷ 28 ∷ []) (p .block) (proper .debtor-iban) (c .block-as))
+      (each-more (λ _. date-there (p .block) (c .block-as))
+      (each-more (λ _. stands profile proper Right 2 10 (24 ∷ 25 ∷ []) (p .block) (block-route proper _ refl) (c .block-as))
+      (each-more (λ _. stands profile proper Right 2 10 (26 ∷ 27 ∷ 28 ∷ []) (p .block) (block-route proper _ refl) (c .block-as))
       (each-more (λ _. agent-there (p .block) (c .block-as))
       (each-more (λ e. false-not-true e)
       (each-more (λ e. false-not-true e)
-      (each-more (λ _. stands profile proper Right 10 37 (38 ∷ 40 ∷ []) (p .own) (proper .end-to-end-id) (c .own-as))
-      (each-more (λ _. stands profile proper Right 10 37 (41 ∷ 42 ∷ []) (p .own) (proper .amount) (c .own-as))
+      (each-more (λ _. stands profile proper Right 10 37 (38 ∷ 40 ∷ []) (p .own) (payment-route proper _ refl) (c .own-as))
+      (each-more (λ _. stands profile proper Right 10 37 (41 ∷ 42 ∷ []) (p .own) (payment-route proper _ refl) (c .own-as))
       (each-more (λ e. false-not-true e)
-      (each-more (λ _. stands profile proper Right 10 37 (44 ∷ 25 ∷ []) (p .own) (proper .creditor-name) (c .own-as))
-      (each-more (λ _. stands profile proper Right 10 37 (45 ∷ 27 ∷ 28 ∷ []) (p .own) (proper .creditor-iban) (c .own-as))
+      (each-more (λ _. stands profile proper Right 10 37 (44 ∷ 25 ∷ []) (p .own) (payment-route proper _ refl) (c .own-as))
+      (each-more (λ _. stands profile proper Right 10 37 (45 ∷ 27 ∷ 28 ∷ []) (p .own) (payment-route proper _ refl) (c .own-as))
       (each-more (λ e. false-not-true e)
       (each-more (λ e. false-not-true e)
       (each-more (λ e. false-not-true e) each-none))))))))))))))))
 
-pub fields-there : (profile : List Row) → Proper profile → (root : Element) → RowsKept profile root → All FieldsThere (payments root)
+pub fields-there : (profile : Profile) → Proper profile → (root : Element) → RowsKept profile root → All FieldsThere (payments root)
 unfolding RowsKept
 fields-there profile proper root kept = all-map (some-fields-there profile proper AnyText) (payments-as profile proper AnyText root kept)

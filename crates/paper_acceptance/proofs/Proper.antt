@@ -1,68 +1,154 @@
--- What must be so of a profile for the theorems about messages: no two rows of a group have one name, and some routes lead where they should. The computed tests
--- are made here, once for each profile.
+-- What must be so of a profile for the theorems about messages: no two rows of a group have one name; some routes lead to an element, whatever the message, and others to
+-- a leaf, if they lead to anything; leaves that are read as numbers are as long as they should be. These are computed tests, made here once for each profile.
 use Prim.Native.Nat.{ℕ}
 use mathlib.Core.List.{List, [], _∷_}
-use mathlib.Core.Bool.{Bool, true, _&&_}
-use mathlib.Core.Path.{_≡_, refl}
-use Rattle.paper.specs.Bytes.{bytes}
-use Rattle.paper.specs.Rows.{either, elements, Row, leaf, group, group-under, rows, row-of}
+use mathlib.Core.Bool.{Bool, true, false, _&&_, _||_}
+use mathlib.Core.Path.{_≡_, refl, ap, _∙_}
+use lib.Dec.{eqb}
+use Rattle.paper.specs.Bytes.{if_then_else_, bytes, same}
+use Rattle.paper.specs.Rows.{leaf, group, group-under, rows, instant-changes, with-row, with-rows, instant-rows, every-row, Profile, first-profile, instant-profile, name-in, name, row-in, row-of}
 use Rattle.paper.specs.Values.{among}
-use Rattle.paper.specs.Refusals.{rows-at}
-use Rattle.paper_acceptance.proofs.Arranged.{rows-of, must}
+use Rattle.paper.specs.Refusals.{rows-at, required, among-texts}
+use Rattle.paper.specs.Answers.{profile-named}
+use Rattle.paper.specs.Host.{profile-numbered}
+use Rattle.paper.specs.declared.Profile as named
+use Rattle.paper.proofs.Laws.{false-not-true, both-left, both-right, same-says}
+use Rattle.paper_acceptance.proofs.Arranged.{rows-of, all-among, must}
 use Rattle.paper_acceptance.proofs.Rows.{RowsApart}
-use Rattle.paper_acceptance.proofs.Apart.{rows-apart}
-use Rattle.paper_acceptance.proofs.Routes.{takes, must-take, steps, must-steps}
+use Rattle.paper_acceptance.proofs.Apart.{unlike, all-unlike, test-holds, test-rows, tested-apart}
+use Rattle.paper_acceptance.proofs.Routes.{takes, must-take, lacks, steps, must-steps, holds-text, leaf-route}
 
 -- from row k under a parent the route leads to an element, whatever the message
-abbrev pub leads : List Row → (parent k : ℕ) → List ℕ → Bool
+abbrev pub leads : Profile → (parent k : ℕ) → List ℕ → Bool
 leads profile parent k route = steps profile parent k route && must-steps profile parent k route
 
-pub record Proper (profile : List Row) : Type 0 where
+-- each of some routes; one of them
+unfoldable pub each-route : (List ℕ → Bool) → List (List ℕ) → Bool
+each-route test [] = true
+each-route test (route ∷ routes) = test route && each-route test routes
+
+pub one-route : (test : List ℕ → Bool) (routes : List (List ℕ)) → each-route test routes ≡ true → (route : List ℕ) → among-texts route routes ≡ true → test route ≡ true
+unfolding each-route among-texts
+one-route test [] e route m = false-not-true m
+one-route test (first ∷ routes) e route m = go (same route first) refl m (λ n. one-route test routes (both-right (test first) _ e) route n)
+  where
+    go : (b : Bool) → same route first ≡ b → (b || among-texts route routes) ≡ true → (among-texts route routes ≡ true → test route ≡ true) → test route ≡ true
+    go true f m below = ap test (same-says route first f) ∙ both-left (test first) _ e
+    go false f m below = below m
+
+-- Routes that lead to an element: of the header; of a block its id, count and sum, its date's group, the debtor's name, account and agent; of a payment its end-to-end id,
+-- amount, and the creditor's name and account.
+abbrev pub root-routes : List (List ℕ)
+root-routes = (2 ∷ 3 ∷ 6 ∷ []) ∷ (2 ∷ 3 ∷ 7 ∷ []) ∷ []
+
+abbrev pub block-routes : List (List ℕ)
+block-routes = (11 ∷ []) ∷ (14 ∷ []) ∷ (15 ∷ []) ∷ (22 ∷ []) ∷ (24 ∷ 25 ∷ []) ∷ (26 ∷ 27 ∷ 28 ∷ []) ∷ (29 ∷ 30 ∷ []) ∷ []
+
+abbrev pub payment-routes : List (List ℕ)
+payment-routes = (38 ∷ 40 ∷ []) ∷ (41 ∷ 42 ∷ []) ∷ (44 ∷ 25 ∷ []) ∷ (45 ∷ 27 ∷ 28 ∷ []) ∷ []
+
+-- Routes to leaves: of the fields and of the table's pairs, in a block and in a payment.
+abbrev pub block-leaf-routes : List (List ℕ)
+block-leaf-routes =
+    (13 ∷ []) ∷ (16 ∷ 17 ∷ []) ∷ (16 ∷ 20 ∷ 21 ∷ []) ∷ (22 ∷ 23 ∷ []) ∷ (22 ∷ 58 ∷ []) ∷ (24 ∷ 25 ∷ []) ∷ (26 ∷ 27 ∷ 28 ∷ []) ∷
+    (29 ∷ 30 ∷ 31 ∷ []) ∷ (29 ∷ 30 ∷ 32 ∷ 33 ∷ []) ∷ (34 ∷ 35 ∷ []) ∷ []
+
+abbrev pub payment-leaf-routes : List (List ℕ)
+payment-leaf-routes =
+    (16 ∷ 17 ∷ []) ∷ (16 ∷ 20 ∷ 21 ∷ []) ∷ (34 ∷ 35 ∷ []) ∷ (38 ∷ 39 ∷ []) ∷ (38 ∷ 40 ∷ []) ∷ (41 ∷ 42 ∷ []) ∷ (43 ∷ 30 ∷ 31 ∷ []) ∷
+    (44 ∷ 25 ∷ []) ∷ (45 ∷ 27 ∷ 28 ∷ []) ∷ (46 ∷ 35 ∷ []) ∷ (47 ∷ 21 ∷ []) ∷ (48 ∷ 49 ∷ []) ∷ (48 ∷ 50 ∷ 51 ∷ 55 ∷ []) ∷ []
+
+pub record Proper (profile : Profile) : Type 0 where
   pub apart : (parent k : ℕ) → RowsApart (row-of profile parent k)
   -- to the blocks and the payments
   pub to-order : steps profile 0 1 (2 ∷ []) ≡ true
   pub to-blocks : steps profile 1 2 (10 ∷ []) ≡ true
   pub to-payments : steps profile 2 10 (37 ∷ []) ≡ true
-  -- leaves that must be there: of the header, of a block, of a payment
-  pub header-count : leads profile 0 1 (2 ∷ 3 ∷ 6 ∷ []) ≡ true
-  pub header-sum : leads profile 0 1 (2 ∷ 3 ∷ 7 ∷ []) ≡ true
-  pub block-id : leads profile 2 10 (11 ∷ []) ≡ true
-  pub block-count : leads profile 2 10 (14 ∷ []) ≡ true
-  pub block-sum : leads profile 2 10 (15 ∷ []) ≡ true
-  pub date : leads profile 2 10 (22 ∷ 23 ∷ []) ≡ true
-  pub debtor-name : leads profile 2 10 (24 ∷ 25 ∷ []) ≡ true
-  pub debtor-iban : leads profile 2 10 (26 ∷ 27 ∷ 28 ∷ []) ≡ true
-  pub debtor-agent : leads profile 2 10 (29 ∷ 30 ∷ []) ≡ true
-  pub agent-or-not : row-of profile 29 30 .holds ≡ elements (either (31 ∷ 32 ∷ []) ∷ [])
+  -- to what must be there
+  pub root-leads : each-route (leads profile 0 1) root-routes ≡ true
+  pub block-leads : each-route (leads profile 2 10) block-routes ≡ true
+  pub payment-leads : each-route (leads profile 10 37) payment-routes ≡ true
+  pub date-or-time : must-take (row-of profile 10 22) (23 ∷ 58 ∷ []) ≡ true
+  pub bic-or-not : must-take (row-of profile 29 30) (31 ∷ 32 ∷ []) ≡ true
   pub to-not-provided : steps profile 29 30 (32 ∷ []) ≡ true
   pub not-provided : leads profile 30 32 (33 ∷ []) ≡ true
-  pub end-to-end-id : leads profile 10 37 (38 ∷ 40 ∷ []) ≡ true
-  pub amount : leads profile 10 37 (41 ∷ 42 ∷ []) ≡ true
-  pub creditor-name : leads profile 10 37 (44 ∷ 25 ∷ []) ≡ true
-  pub creditor-iban : leads profile 10 37 (45 ∷ 27 ∷ 28 ∷ []) ≡ true
+  -- to leaves
+  pub block-leaves : each-route (leaf-route profile 2 10) block-leaf-routes ≡ true
+  pub payment-leaves : each-route (leaf-route profile 10 37) payment-leaf-routes ≡ true
+  -- leaves that are read as numbers
+  pub header-count-is : row-of profile 3 6 ≡ leaf 6 "NbOfTxs" 15
+  pub header-sum-is : row-of profile 3 7 ≡ leaf 7 "CtrlSum" 18
+  pub block-count-is : row-of profile 10 14 ≡ leaf 14 "NbOfTxs" 15
+  pub block-sum-is : row-of profile 10 15 ≡ leaf 15 "CtrlSum" 18
+  pub amount-is : row-of profile 41 42 ≡ leaf 42 "InstdAmt" 18
 
-pub rows-proper : Proper rows
-unfolding rows row-of leaf group group-under bytes takes must-take must rows-of rows-at among steps must-steps
-rows-proper =
+module _ {profile : Profile} (proper : Proper profile) where
+  pub root-route : (route : List ℕ) → among-texts route root-routes ≡ true → leads profile 0 1 route ≡ true
+  root-route = one-route (leads profile 0 1) root-routes (proper .root-leads)
+
+  pub block-route : (route : List ℕ) → among-texts route block-routes ≡ true → leads profile 2 10 route ≡ true
+  block-route = one-route (leads profile 2 10) block-routes (proper .block-leads)
+
+  pub payment-route : (route : List ℕ) → among-texts route payment-routes ≡ true → leads profile 10 37 route ≡ true
+  payment-route = one-route (leads profile 10 37) payment-routes (proper .payment-leads)
+
+pub first-proper : Proper first-profile
+unfolding first-profile rows instant-changes every-row name-in name row-in row-of leaf group group-under bytes same takes must-take lacks must all-among required rows-of rows-at among steps must-steps each-route holds-text leaf-route unlike all-unlike test-holds test-rows
+first-proper =
     record {
-      apart = rows-apart;
+      apart = tested-apart first-profile refl;
       to-order = refl;
       to-blocks = refl;
       to-payments = refl;
-      header-count = refl;
-      header-sum = refl;
-      block-id = refl;
-      block-count = refl;
-      block-sum = refl;
-      date = refl;
-      debtor-name = refl;
-      debtor-iban = refl;
-      debtor-agent = refl;
-      agent-or-not = refl;
+      root-leads = refl;
+      block-leads = refl;
+      payment-leads = refl;
+      date-or-time = refl;
+      bic-or-not = refl;
       to-not-provided = refl;
       not-provided = refl;
-      end-to-end-id = refl;
-      amount = refl;
-      creditor-name = refl;
-      creditor-iban = refl;
+      block-leaves = refl;
+      payment-leaves = refl;
+      header-count-is = refl;
+      header-sum-is = refl;
+      block-count-is = refl;
+      block-sum-is = refl;
+      amount-is = refl;
     }
+
+pub instant-proper : Proper instant-profile
+unfolding instant-profile rows instant-changes with-row with-rows instant-rows every-row name-in name row-in row-of leaf group group-under bytes same takes must-take lacks must all-among required rows-of rows-at among steps must-steps each-route holds-text leaf-route unlike all-unlike test-holds test-rows
+instant-proper =
+    record {
+      apart = tested-apart instant-profile refl;
+      to-order = refl;
+      to-blocks = refl;
+      to-payments = refl;
+      root-leads = refl;
+      block-leads = refl;
+      payment-leads = refl;
+      date-or-time = refl;
+      bic-or-not = refl;
+      to-not-provided = refl;
+      not-provided = refl;
+      block-leaves = refl;
+      payment-leaves = refl;
+      header-count-is = refl;
+      header-sum-is = refl;
+      block-count-is = refl;
+      block-sum-is = refl;
+      amount-is = refl;
+    }
+
+-- whichever profile is named, by a caller of the code or by a number
+pub either-proper : (b : Bool) → Proper (if b then instant-profile else first-profile)
+either-proper true = instant-proper
+either-proper false = first-proper
+
+pub named-proper : (p : named.Profile) → Proper (profile-named p)
+unfolding profile-named
+named-proper p = either-proper (p .instant)
+
+pub numbered-proper : (n : ℕ) → Proper (profile-numbered n)
+unfolding profile-numbered
+numbered-proper n = either-proper (eqb n 1)

@@ -3,18 +3,19 @@ use Prim.Native.Nat.{ℕ}
 use mathlib.Core.List.{List, [], _∷_}
 use mathlib.Core.Bool.{true}
 use mathlib.Core.Option.{none, some}
-use mathlib.Core.Path.{_≡_}
+use mathlib.Core.Path.{_≡_, refl}
+use Rattle.paper.specs.Bytes.{same}
 use Rattle.paper.specs.Form.{Element}
-use Rattle.paper.specs.Rows.{Row, row-of, text, head-of}
+use Rattle.paper.specs.Rows.{Row, Profile, row-of, text, head-of}
 use Rattle.paper.specs.Payments.{child, follow, blocks, of-header, payments, text-of}
-use Rattle.paper.specs.Refusals.{values-refusal}
+use Rattle.paper.specs.Refusals.{values-refusal, among-texts}
 use Rattle.paper.specs.Accepted.{All, RightText, ValuesRight}
 use Rattle.paper_acceptance.proofs.Routes.{leaf-conforms, EndsAs}
-use Rattle.paper_acceptance.proofs.Proper.{leads, Proper}
+use Rattle.paper_acceptance.proofs.Proper.{leads, Proper, payment-route}
 use Rattle.paper_acceptance.proofs.Present.{As, follow-one, ends-as, PaymentAs, blocks-as, payments-as}
 use Rattle.paper_acceptance.proofs.Stages.{values-right}
 
-module _ (profile : List Row) (proper : Proper profile) where
+module _ (profile : Profile) (proper : Proper profile) where
   abbrev pub RightAs : (parent k : ℕ) → Element → Type 0
   RightAs parent k t = As profile proper RightText parent k t
 
@@ -27,9 +28,9 @@ module _ (profile : List Row) (proper : Proper profile) where
 
   pub amount-right : (t : Element) → RightAs 10 37 t → (longest : ℕ) (u : Element) → row-of profile 41 42 .holds ≡ text longest → follow (41 ∷ 42 ∷ []) t ≡ some u
       → RightText 41 (row-of profile 41 42) (head-of u) (text-of u)
-  unfolding EndsAs
+  unfolding EndsAs among-texts same
   amount-right t c longest u holds e =
-      leaf-conforms profile RightText u 41 (row-of profile 41 42) longest holds (ends-as profile proper RightText 10 37 (41 ∷ 42 ∷ []) t u (proper .amount) c e)
+      leaf-conforms profile RightText u 41 (row-of profile 41 42) longest holds (ends-as profile proper RightText 10 37 (41 ∷ 42 ∷ []) t u (payment-route proper _ refl) c e)
 
   module _ (root : Element) (right : values-refusal profile root ≡ none) where
     root-right : RightAs 0 1 root

@@ -1,7 +1,7 @@
 -- What a conforming element has: the children of a row conform to it, a row that must be there has a child, and so along a route of rows.
 use Prim.Native.Nat.{ℕ}
 use native.Mathlib.Omega.{arith}
-use mathlib.Core.List.{List, [], _∷_, _++_, List·Memᴰ, List·Memᴰ·head, List·Memᴰ·cases-cons, List·Memᴰ·not-nil, Memᴰ·append-left, Memᴰ·append-right}
+use mathlib.Core.List.{List, [], _∷_, _++_, List·Memᴰ, List·Memᴰ·head, List·Memᴰ·cases-cons, List·Memᴰ·eq-of-singleton, List·Memᴰ·not-nil, Memᴰ·append-left, Memᴰ·append-right}
 use mathlib.Core.Bool.{Bool, true, false, _&&_}
 use mathlib.Core.Option.{Option, none, some}
 use mathlib.Core.Path.{_≡_, refl, sym, _∙_, ap, subst}
@@ -10,14 +10,15 @@ use borrow.Author.Tests.{eqb-true}
 use lib.Dec.{eqb}
 use Rattle.paper.specs.Bytes.{if_then_else_, white, same, Every}
 use Rattle.paper.specs.Form.{Head, Element, Elements, holding-text, holding-elements, []ᵉ, _∷ᵉ_}
-use Rattle.paper.specs.Rows.{Place, either, Contents, text, elements, Row, name, row-of, head-of, Arranged, end, exactly-one, there, not-there, the-last, one-before, chosen, Conforms, Conform}
+use Rattle.paper.specs.Rows.{Place, Contents, text, elements, Row, Profile, name, row-of, head-of, Arranged, end, exactly-one, there, not-there, the-last, one-before, chosen, Conforms, Conform}
 use Rattle.paper.specs.Values.{among}
 use Rattle.paper.specs.Payments.{listed, children, all-named, all-of, child, follow, text-of}
 use Rattle.paper.specs.Refusals.{rows-at}
 use Rattle.paper.specs.Accepted.{All, all-none, all-more, There}
-use Rattle.paper.proofs.Laws.{some-not-none, both-left, both-right, same-says, same-tests, all-member, all-map, among-says}
-use Rattle.paper_acceptance.proofs.Arranged.{rows-of, Apart, apart-none, apart-more, must, must-be-there, one-chosen}
+use Rattle.paper.proofs.Laws.{some-not-none, both-left, both-right, same-says, same-tests, same-differs, all-member, all-map, among-says}
+use Rattle.paper_acceptance.proofs.Arranged.{rows-of, Apart, apart-none, apart-more, must, one-there}
 use Rattle.paper_acceptance.proofs.Rows.{RowsApart}
+use Rattle.paper_acceptance.proofs.Apart.{unlike, unlike-says}
 
 -- the rows of arranged children are rows of the places
 deeper : (is : List ℕ) {js ks : List ℕ} → All (λ k. List·Memᴰ k js) ks → All (λ k. List·Memᴰ k (is ++ js)) ks
@@ -33,21 +34,35 @@ arranged-in (the-last {k} a) = all-more (List·Memᴰ·head refl) (deeper (k ∷
 arranged-in (one-before a) = all-more (List·Memᴰ·head refl) (arranged-in a)
 arranged-in (chosen {choice = c} m a) = all-more (Memᴰ·append-left _ m) (deeper c (arranged-in a))
 
--- a row is one of a group's rows, and one that must be there, as tests
+-- a row is one of a group's rows; one of some must be there; as tests
 unfoldable pub takes : Row → ℕ → Bool
 takes r k = elim (r .holds) [ text longest ↦ false | elements places ↦ among k (rows-of places) ]
 
-unfoldable pub must-take : Row → ℕ → Bool
-must-take r k = elim (r .holds) [ text longest ↦ false | elements places ↦ must k places ]
+unfoldable pub must-take : Row → (choice : List ℕ) → Bool
+must-take r choice = elim (r .holds) [ text longest ↦ false | elements places ↦ must choice places ]
+
+-- no row of a group is named as this one, as a test
+unfoldable pub lacks : Row → ℕ → Bool
+lacks r k = elim (r .holds) [ text longest ↦ true | elements places ↦ unlike k (rows-of places) ]
 
 -- Along a route from row k under a parent: each row is taken by the one before, and each must be there, as tests.
-unfoldable pub steps : List Row → (parent k : ℕ) → List ℕ → Bool
+unfoldable pub steps : Profile → (parent k : ℕ) → List ℕ → Bool
 steps profile parent k [] = true
 steps profile parent k (j ∷ js) = (eqb (row-of profile parent k .row) k && takes (row-of profile parent k) j) && steps profile k j js
 
-unfoldable pub must-steps : List Row → (parent k : ℕ) → List ℕ → Bool
+unfoldable pub must-steps : Profile → (parent k : ℕ) → List ℕ → Bool
 must-steps profile parent k [] = true
-must-steps profile parent k (j ∷ js) = must-take (row-of profile parent k) j && must-steps profile k j js
+must-steps profile parent k (j ∷ js) = must-take (row-of profile parent k) (j ∷ []) && must-steps profile k j js
+
+-- Along a route a leaf stands at the end, or nothing: each row is taken by the one before, or has a name that none of that group's has.
+unfoldable pub holds-text : Contents → Bool
+holds-text (text longest) = true
+holds-text (elements places) = false
+
+unfoldable pub leaf-route : Profile → (parent k : ℕ) → List ℕ → Bool
+leaf-route profile parent k [] = holds-text (row-of profile parent k .holds)
+leaf-route profile parent k (j ∷ js) =
+    if takes (row-of profile parent k) j then eqb (row-of profile parent k .row) k && leaf-route profile k j js else lacks (row-of profile parent k) j
 
 -- rows of one name are one row
 apart-same : {ks : List ℕ} {j k : ℕ} → Apart ks → List·Memᴰ j ks → List·Memᴰ k ks → name j ≡ name k → j ≡ k
@@ -61,7 +76,7 @@ some-first : (l : List Element) {u : Element} → List·Memᴰ u l → There (el
 some-first [] m = absurd (List·Memᴰ·not-nil m)
 some-first (v ∷ vs) m = record { it = v; is-it = refl }
 
-module _ (profile : List Row) (Right : (parent : ℕ) → Row → Head → List ℕ → Type 0) where
+module _ (profile : Profile) (Right : (parent : ℕ) → Row → Head → List ℕ → Type 0) where
   -- all children that are named as row k conform to it
   named-conform : (ts : Elements) (row k : ℕ) (ks js : List ℕ) → Apart js → List·Memᴰ k js → All (λ i. List·Memᴰ i js) ks → Conform profile Right ts row ks
       → All (λ u. Conforms profile Right u row (row-of profile row k)) (all-named k (listed ts))
@@ -100,7 +115,7 @@ module _ (profile : List Row) (Right : (parent : ℕ) → Row → Head → List 
       go [] h f = some-not-none (sym f)
       go (v ∷ vs) (all-more p h) f = let g : v ≡ u = cc in subst (λ (x : Element). Conforms profile Right x (r .row) (row-of profile (r .row) k)) g p
 
-  -- In a conforming group each row that must be there has a child that is found.
+  -- In a conforming group, of some rows of which one must be there, one has a child that is found.
   named-there : (ts : Elements) (row k : ℕ) (ks : List ℕ) → List·Memᴰ k ks → Conform profile Right ts row ks → (u : Element) × List·Memᴰ u (all-named k (listed ts))
   unfolding all-named listed Conforms
   named-there []ᵉ row k ks m c = absurd (List·Memᴰ·not-nil (subst (λ (l : List ℕ). List·Memᴰ k l) c m))
@@ -117,44 +132,50 @@ module _ (profile : List Row) (Right : (parent : ℕ) → Row → Head → List 
       further-on true n = (n .0, Memᴰ·append-right (t ∷ []) (n .1))
       further-on false n = n
 
-  pub child-there : (t : Element) (parent : ℕ) (r : Row) (k : ℕ) → must-take r k ≡ true → Conforms profile Right t parent r → There (child k t)
-  unfolding child all-of children must-take Conforms
-  child-there (holding-text h w) parent r k e c = absurd (go (r .holds) e c)
-    where
-      go : (holds : Contents) → _≡_ {A = Bool} (elim holds [ text longest ↦ false | elements places ↦ must k places ]) true
-          → (elim holds as (λ _. Type 0) [ text longest ↦ Right parent r h w | elements places ↦ Every white w × Arranged places [] ]) → ⊥
-      go (text longest) e c = let z : _≡_ {A = ℕ} 0 1 = cc in omega (arith, z)
-      go (elements places) e c = List·Memᴰ·not-nil (must-be-there k e (c .1))
-  child-there (holding-elements h ts) parent r k e c = go (r .holds) e c
-    where
-      go : (holds : Contents) → _≡_ {A = Bool} (elim holds [ text longest ↦ false | elements places ↦ must k places ]) true
-          → (elim holds as (λ _. Type 0) [ text longest ↦ ⊥ | elements places ↦ (ks : List ℕ) × Arranged places ks × Conform profile Right ts (r .row) ks ])
-          → There (elim (all-named k (listed ts)) as (λ _. Option Element) [ [] ↦ none | v ∷ vs ↦ some v ])
-      go (text longest) e c = absurd c
-      go (elements places) e c = some-first (all-named k (listed ts)) (named-there ts (r .row) k (c .0) (must-be-there k e (c .1)) (c .2) .1)
-
-  -- of a choice, one
-  pub choice-there : (t : Element) (parent : ℕ) (r : Row) (choice : List ℕ) → r .holds ≡ elements (either choice ∷ []) → Conforms profile Right t parent r
+  pub choice-there : (t : Element) (parent : ℕ) (r : Row) (choice : List ℕ) → must-take r choice ≡ true → Conforms profile Right t parent r
       → (k : ℕ) × List·Memᴰ k choice × There (child k t)
-  unfolding child all-of children Conforms
+  unfolding child all-of children must-take Conforms
   choice-there (holding-text h w) parent r choice e c = absurd (go (r .holds) e c)
     where
-      go : (holds : Contents) → holds ≡ elements (either choice ∷ [])
+      go : (holds : Contents) → _≡_ {A = Bool} (elim holds [ text longest ↦ false | elements places ↦ must choice places ]) true
           → (elim holds as (λ _. Type 0) [ text longest ↦ Right parent r h w | elements places ↦ Every white w × Arranged places [] ]) → ⊥
       go (text longest) e c = let z : _≡_ {A = ℕ} 0 1 = cc in omega (arith, z)
-      go (elements places) e c =
-          let p : places ≡ either choice ∷ [] = cc in
-          List·Memᴰ·not-nil (one-chosen (subst (λ (ps : List Place). Arranged ps []) p (c .1)) .2)
+      go (elements places) e c = List·Memᴰ·not-nil (one-there choice e (c .1) .2)
   choice-there (holding-elements h ts) parent r choice e c = go (r .holds) e c
     where
-      go : (holds : Contents) → holds ≡ elements (either choice ∷ [])
+      go : (holds : Contents) → _≡_ {A = Bool} (elim holds [ text longest ↦ false | elements places ↦ must choice places ]) true
           → (elim holds as (λ _. Type 0) [ text longest ↦ ⊥ | elements places ↦ (ks : List ℕ) × Arranged places ks × Conform profile Right ts (r .row) ks ])
           → (k : ℕ) × List·Memᴰ k choice × There (elim (all-named k (listed ts)) as (λ _. Option Element) [ [] ↦ none | v ∷ vs ↦ some v ])
       go (text longest) e c = absurd c
       go (elements places) e c =
-          let p : places ≡ either choice ∷ [] = cc in
-          let n = one-chosen (subst (λ (ps : List Place). Arranged ps (c .0)) p (c .1)) in
+          let n = one-there choice e (c .1) in
           (n .0, n .1, some-first (all-named (n .0) (listed ts)) (named-there ts (r .row) (n .0) (c .0) (n .2) (c .2) .1))
+
+  pub child-there : (t : Element) (parent : ℕ) (r : Row) (k : ℕ) → must-take r (k ∷ []) ≡ true → Conforms profile Right t parent r → There (child k t)
+  child-there t parent r k e c =
+      let n = choice-there t parent r (k ∷ []) e c in
+      subst (λ (j : ℕ). There (child j t)) (List·Memᴰ·eq-of-singleton (n .1)) (n .2)
+
+  -- A row that has the name of none of a group's has no child there.
+  none-named : (ts : Elements) (row k : ℕ) (ks js : List ℕ) → All (λ j. name k ≡ name j → ⊥) js → All (λ i. List·Memᴰ i js) ks → Conform profile Right ts row ks
+      → all-named k (listed ts) ≡ []
+  unfolding all-named listed Conforms
+  none-named []ᵉ row k ks js a h c = refl
+  none-named (t ∷ᵉ ts) row k [] js a h c = absurd c
+  none-named (t ∷ᵉ ts) row k (i ∷ ks) js a (all-more n h) c =
+      rw (same-differs (head-of t .name) (name k) (λ e. all-member a n (sym e ∙ c .0))) (none-named ts row k ks js a h (c .2))
+
+  pub child-absent : (t : Element) (parent : ℕ) (r : Row) (k : ℕ) → lacks r k ≡ true → Conforms profile Right t parent r → child k t ≡ none
+  unfolding child all-of children all-named lacks Conforms
+  child-absent (holding-text h w) parent r k e c = refl
+  child-absent (holding-elements h ts) parent r k e c = go (r .holds) e c
+    where
+      go : (holds : Contents) → _≡_ {A = Bool} (elim holds [ text longest ↦ true | elements places ↦ unlike k (rows-of places) ]) true
+          → (elim holds as (λ _. Type 0) [ text longest ↦ ⊥ | elements places ↦ (ks : List ℕ) × Arranged places ks × Conform profile Right ts (r .row) ks ])
+          → _≡_ {A = Option Element} (elim (all-named k (listed ts)) [ [] ↦ none | v ∷ vs ↦ some v ]) none
+      go (text longest) e c = absurd c
+      go (elements places) e c =
+          rw (none-named ts (r .row) k (c .0) (rows-of places) (unlike-says k (rows-of places) e) (arranged-in (c .1)) (c .2))
 
   -- a leaf that conforms holds text that is right for it
   pub leaf-conforms : (t : Element) (parent : ℕ) (r : Row) (longest : ℕ) → r .holds ≡ text longest → Conforms profile Right t parent r
@@ -187,7 +208,7 @@ module _ (profile : List Row) (Right : (parent : ℕ) → Row → Head → List 
         subst (λ (i : ℕ). All (λ u. Conforms profile Right u i (row-of profile i j)) (all-of j t)) (eqb-true _ k (both-left (eqb (row-of profile parent k .row) k) _ e))
         (all-conform t parent (row-of profile parent k) j (apart parent k) (both-right (eqb (row-of profile parent k .row) k) _ e) c)
 
-    step : (parent k j : ℕ) (t u : Element) → (eqb (row-of profile parent k .row) k && takes (row-of profile parent k) j) ≡ true → As parent k t → child j t ≡ some u → As k j u
+    pub step : (parent k j : ℕ) (t u : Element) → (eqb (row-of profile parent k .row) k && takes (row-of profile parent k) j) ≡ true → As parent k t → child j t ≡ some u → As k j u
     step parent k j t u e c f =
         subst (λ (i : ℕ). Conforms profile Right u i (row-of profile i j)) (eqb-true _ k (both-left (eqb (row-of profile parent k .row) k) _ e))
         (child-conforms t parent (row-of profile parent k) j u (apart parent k) (both-right (eqb (row-of profile parent k .row) k) _ e) c f)
@@ -209,10 +230,10 @@ module _ (profile : List Row) (Right : (parent : ℕ) → Row → Head → List 
     unfolding steps must-steps follow
     follow-there parent k [] t e m c = record { it = t; is-it = refl }
     follow-there parent k (j ∷ js) t e m c =
-        let one = child-there t parent (row-of profile parent k) j (both-left (must-take (row-of profile parent k) j) _ m) c in
+        let one = child-there t parent (row-of profile parent k) j (both-left (must-take (row-of profile parent k) (j ∷ [])) _ m) c in
         go (one .is-it)
         (follow-there k j js (one .it) (both-right (eqb (row-of profile parent k .row) k && takes (row-of profile parent k) j) _ e)
-        (both-right (must-take (row-of profile parent k) j) _ m)
+        (both-right (must-take (row-of profile parent k) (j ∷ [])) _ m)
         (step parent k j t (one .it) (both-left (eqb (row-of profile parent k .row) k && takes (row-of profile parent k) j) _ e) c (one .is-it)))
       where
         go : {o : Option Element} {v : Element} → o ≡ some v → There (follow js v) → There (elim o as (λ _. Option Element) [ none ↦ none | some w ↦ follow js w ])

@@ -7,7 +7,7 @@ use mathlib.Core.Option.{Option, none, some}
 use mathlib.Core.Path.{_≡_, refl, _∙_, ap, subst}
 use Rattle.paper.specs.Bytes.{if_then_else_, white, every, Every}
 use Rattle.paper.specs.Form.{Head, Element, Elements, holding-text, holding-elements, []ᵉ, _∷ᵉ_}
-use Rattle.paper.specs.Rows.{Place, Contents, text, elements, Row, row-of, head-of, Arranged, Conforms, Conform}
+use Rattle.paper.specs.Rows.{Place, Contents, text, elements, Row, Profile, row-of, head-of, Arranged, Conforms, Conform}
 use Rattle.paper.specs.Refusals.{Refusal, refuse, _or-else_, Left, from-here, missing, ends, only-white, first-at, first-not, Sought, never, early, found, seek, Judgement, walk, walk-all}
 use Rattle.paper.proofs.Laws.{some-not-none, every-says, every-tests}
 use Rattle.paper_acceptance.proofs.Arranged.{ArrangedLeft, as-places, nothing-missing, missing-nothing, seek-arranged, rows-of, Apart, ApartLeft, arranged-seek}
@@ -57,7 +57,7 @@ conforms-white row ps h w c = rw (every-tests (c .0)) (arranged-ends (from-here 
 unfoldable pub RowsApart : Row → Type 0
 RowsApart r = elim (r .holds) [ text longest ↦ Unit {0} | elements places ↦ Apart (rows-of places) ]
 
-module _ (profile : List Row) (judge : Judgement) (Right : (parent : ℕ) → Row → Head → List ℕ → Type 0) where
+module _ (profile : Profile) (judge : Judgement) (Right : (parent : ℕ) → Row → Head → List ℕ → Type 0) where
   -- No refusal: it conforms.
   module _ (judges : (parent : ℕ) (r : Row) (h : Head) (w : List ℕ) → judge parent r h w ≡ none → Right parent r h w) where
     text-conforms : (holds : Contents) (parent : ℕ) (r : Row) (h : Head) (w : List ℕ)

@@ -11,7 +11,7 @@ use lib.ListN.{length, length-append, length-map}
 use lib.Dec.{eqb, leb, ltb}
 use Rattle.paper.specs.Bytes.{if_then_else_, value-character, every, same}
 use Rattle.paper.specs.Form.{Head, Element}
-use Rattle.paper.specs.Rows.{Row, row-of, longest-of, head-of}
+use Rattle.paper.specs.Rows.{Row, Profile, row-of, longest-of, head-of}
 use Rattle.paper.specs.Values.{lies-from, allowed, number, cents}
 use Rattle.paper.specs.Payments.{Payment, text-of, all-of, blocks, header-count, header-sum, block-id, block-count, block-sum, instructed-amount, payments, payments-from, payments-of, in-payment, in-block, amount-of, sum-of, total}
 use Rattle.paper.specs.Refusals.{Refusal, refuse, _or-else_, leaf-refusal, no-judgement, among-texts, unless, at-of, sixty-fifth, too-many, in-both, in-neither, usage-of, usage, repeated, block-counts, rows-refusal, values-refusal, limits-refusal, usage-refusal, ids-refusal, total-refusal, counts-refusal}
@@ -353,14 +353,14 @@ counts-true root amounts of-each =
     )
 
 -- 3 and 4, 6 to 8: over the tree
-pub rows-kept : (profile : List Row) → ((parent k : ℕ) → RowsApart (row-of profile parent k)) → (root : Element) → rows-refusal profile root ≡ none ↔ RowsKept profile root
+pub rows-kept : (profile : Profile) → ((parent k : ℕ) → RowsApart (row-of profile parent k)) → (root : Element) → rows-refusal profile root ≡ none ↔ RowsKept profile root
 unfolding rows-refusal RowsKept no-judgement
 rows-kept profile apart root = (
   (λ e. walk-conforms profile no-judgement AnyText (λ parent r h w n. record {}) root 0 (row-of profile 0 1) e),
   (λ c. conforms-walk profile no-judgement AnyText (λ parent r h w d. refl) apart root 0 (row-of profile 0 1) (apart 0 1) c),
 )
 
-pub values-right : (profile : List Row) → ((parent k : ℕ) → RowsApart (row-of profile parent k)) → (root : Element)
+pub values-right : (profile : Profile) → ((parent k : ℕ) → RowsApart (row-of profile parent k)) → (root : Element)
     → values-refusal profile root ≡ none ↔ ValuesRight profile root
 unfolding values-refusal ValuesRight
 values-right profile apart root = (

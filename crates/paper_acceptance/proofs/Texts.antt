@@ -127,7 +127,7 @@ module _ {s : List ℕ} (p : Payment) (i : PaymentInPlace s p) where
       all-more (block-stands _)
       (all-more (inherited-stands _)
       (all-more (inherited-stands _)
-      (all-more (block-stands _)
+      (all-more (either-stands (block-stands _) (block-stands _))
       (all-more (block-stands _)
       (all-more (block-stands _)
       (all-more (either-stands (block-stands _) (block-stands _))

@@ -10,7 +10,7 @@ use lib.ListN.{length, getD, length-append, length-map}
 use lib.Dec.{eqb, ltb}
 use borrow.Author.Tests.{eqb-true, eqb-false, eq-eqb, ne-eqb, ltb-true, ltb-false, lt-ltb, le-ltb}
 use Rattle.paper.specs.Bytes.{if_then_else_}
-use Rattle.paper.specs.Rows.{Row}
+use Rattle.paper.specs.Rows.{Profile}
 use Rattle.paper.specs.Values.{among}
 use Rattle.paper.specs.Payments.{Payment, payments}
 use Rattle.paper.specs.Refusals.{Refusal, Outcome, refused-as, accepted-with, outcome-alone}
@@ -158,7 +158,7 @@ passes-over first k named (o ∷ done) os (p ∷ earlier) ps r =
         elim d [ some field ↦ answered 20 k field | none ↦ pairing first (suc k) (o ∷ named) (done ++ os) (earlier ++ ps) ]) a
     go a b c e = rw (a, b, c) e
 
-module _ (profile : List Row) (proper : Proper profile) (first second file : List ℕ) where
+module _ (profile : Profile) (proper : Proper profile) (first second file : List ℕ) where
   -- what the walk answers: one of 18 to 20 as it should, or acceptance
   abbrev Answers : RegroupingAnswer → Type 0
   Answers a = AnswerIs profile first second file a ⊎ (a ≡ answered 0 0 0)

@@ -12,7 +12,7 @@ use lib.Dec.{eqb}
 use borrow.Author.Tests.{eqb-true, eq-eqb}
 use Rattle.paper.specs.Bytes.{if_then_else_, bytes, same, each}
 use Rattle.paper.specs.Form.{Element}
-use Rattle.paper.specs.Rows.{Row}
+use Rattle.paper.specs.Rows.{Profile}
 use Rattle.paper.specs.Payments.{Payment, payments}
 use Rattle.paper.specs.Refusals.{Refusal, Outcome, refused-as, accepted-with, outcome-alone}
 use Rattle.paper.specs.Accepted.{All, all-none, all-more, EachWith, each-none, each-more, Accepted}
@@ -219,7 +219,7 @@ whose-one : {A : Type 0} (w : ℕ) (r : Refusal) → 0 < w → message-refused w
 unfolding message-refused answered
 whose-one w r h e = let z : w ≡ 0 = ap (λ (a : RegroupingAnswer). a .whose) e in absurd (omega (arith, z))
 
-module _ (profile : List Row) (proper : Proper profile) where
+module _ (profile : Profile) (proper : Proper profile) where
   -- a list as `Regroups` says it
   module _ (first second file : List ℕ) where
     regroups : (a : Accepted profile first) (b : Accepted profile second) (l : Listed (all-values (a .root)) (all-values (b .root)) file) → file ≡ file-of (l .ordinals)
@@ -298,7 +298,7 @@ often-counts p [] = refl
 often-counts p (q ∷ l) = rw (often-counts p l)
 
 -- For two accepted messages an acceptable list exists exactly where every payment stands equally often in both.
-module _ (profile : List Row) (proper : Proper profile) (first second : List ℕ) (a : Accepted profile first) (b : Accepted profile second) where
+module _ (profile : Profile) (proper : Proper profile) (first second : List ℕ) (a : Accepted profile first) (b : Accepted profile second) where
   often-list : EquallyOften (a .root) (b .root) → AcceptableList profile first second
   unfolding EquallyOften
   often-list h = go (counts-paired same-payment same-payment-says same-payment-tests [] (all-values (a .root)) (all-values (b .root)) counts)

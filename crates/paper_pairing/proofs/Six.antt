@@ -9,7 +9,7 @@ use mathlib.Core.Logic.{_↔_}
 use lib.ListN.{length, getD}
 use lib.Dec.{eqb, ltb}
 use Rattle.paper.specs.Bytes.{if_then_else_}
-use Rattle.paper.specs.Rows.{Row}
+use Rattle.paper.specs.Rows.{Profile}
 use Rattle.paper.specs.Values.{among}
 use Rattle.paper.specs.Refusals.{Refusal, Outcome, refused-as, accepted-with, outcome-alone}
 use Rattle.paper.specs.Accepted.{All}
@@ -67,7 +67,7 @@ not-a-pair : {n : ℕ} → List·Memᴰ n (18 ∷ 19 ∷ []) → n ≡ 0 → ⊥
 not-a-pair (List·Memᴰ·head f) e = omega (arith, f, e)
 not-a-pair (List·Memᴰ·tail (List·Memᴰ·head f)) e = omega (arith, f, e)
 
-module _ (profile : List Row) (proper : Proper profile) (first second file : List ℕ) where
+module _ (profile : Profile) (proper : Proper profile) (first second file : List ℕ) where
   pub six-numbers : SixNumbers (regrouping profile first second file)
   unfolding regrouping of-outcomes
   six-numbers = go (outcome-alone profile first) refl (outcome-alone profile second) refl
