@@ -29,9 +29,13 @@
 #define MOST_VERDICTS 2.40
 #define MOST_STACK (80 * 1024)
 
-glowenzo_verdict_t independent_verdict(const uint8_t *message, uint64_t message_len, uint8_t *table, uint64_t table_len);
-glowenzo_regroup_t independent_regroup(const uint8_t *first, uint64_t first_len, const uint8_t *second, uint64_t second_len, const uint8_t *list,
-                                       uint64_t list_len);
+/* The profiles, as the functions name them. */
+#define FIRST 0
+#define INSTANT 1
+
+glowenzo_verdict_t independent_verdict(uint64_t profile, const uint8_t *message, uint64_t message_len, uint8_t *table, uint64_t table_len);
+glowenzo_regroup_t independent_regroup(uint64_t profile, const uint8_t *first, uint64_t first_len, const uint8_t *second, uint64_t second_len,
+                                       const uint8_t *list, uint64_t list_len);
 
 struct input {
     const char *name;
@@ -39,8 +43,9 @@ struct input {
     uint64_t length;
 };
 
-/* One call to time: up to three inputs. */
+/* One call to time: the profile and up to three inputs. */
 struct call {
+    uint64_t profile;
     const struct input *first, *second, *list;
 };
 
@@ -52,27 +57,27 @@ static unsigned long events;
 
 static void our_verdict(const struct call *call)
 {
-    glowenzo_verdict_t v = glowenzo_verdict(call->first->bytes, call->first->length, table, sizeof table);
+    glowenzo_verdict_t v = glowenzo_verdict(call->profile, call->first->bytes, call->first->length, table, sizeof table);
     sink += v.number + v.cents;
 }
 
 static void rust_verdict(const struct call *call)
 {
-    glowenzo_verdict_t v = independent_verdict(call->first->bytes, call->first->length, table, sizeof table);
+    glowenzo_verdict_t v = independent_verdict(call->profile, call->first->bytes, call->first->length, table, sizeof table);
     sink += v.number + v.cents;
 }
 
 static void our_regroup(const struct call *call)
 {
-    glowenzo_regroup_t r = glowenzo_regroup(call->first->bytes, call->first->length, call->second->bytes, call->second->length, call->list->bytes,
-                                            call->list->length);
+    glowenzo_regroup_t r = glowenzo_regroup(call->profile, call->first->bytes, call->first->length, call->second->bytes, call->second->length,
+                                            call->list->bytes, call->list->length);
     sink += r.number + r.k;
 }
 
 static void rust_regroup(const struct call *call)
 {
-    glowenzo_regroup_t r = independent_regroup(call->first->bytes, call->first->length, call->second->bytes, call->second->length, call->list->bytes,
-                                               call->list->length);
+    glowenzo_regroup_t r = independent_regroup(call->profile, call->first->bytes, call->first->length, call->second->bytes, call->second->length,
+                                               call->list->bytes, call->list->length);
     sink += r.number + r.k;
 }
 
@@ -247,14 +252,14 @@ static void same(const char *what, int holds)
     }
 }
 
-static void verdict_line(const struct input *message, double most)
+static void verdict_line(uint64_t profile, const struct input *message, double most)
 {
     static contender *const runs[] = {our_verdict, rust_verdict, libxml2, expat};
-    struct call call = {message, NULL, NULL};
+    struct call call = {profile, message, NULL, NULL};
     double ns[4];
     measure(runs, ns, 4, &call);
-    glowenzo_verdict_t v = glowenzo_verdict(message->bytes, message->length, table, sizeof table);
-    glowenzo_verdict_t w = independent_verdict(message->bytes, message->length, table, sizeof table);
+    glowenzo_verdict_t v = glowenzo_verdict(profile, message->bytes, message->length, table, sizeof table);
+    glowenzo_verdict_t w = independent_verdict(profile, message->bytes, message->length, table, sizeof table);
     printf("%-20s %6lu %4lu %9.1f %9.1f %9.1f %9.1f %9.2f %9.2f %9.2f %9.2f %4.2f %s\n", message->name, (unsigned long)message->length,
            (unsigned long)v.number, ns[0] / 1e3, ns[1] / 1e3, ns[2] / 1e3, ns[3] / 1e3, ns[0] / (double)message->length, ns[0] / ns[1], ns[0] / ns[3],
            ns[0] / ns[2], most, bar(ns[0] / ns[2], most));
@@ -265,14 +270,14 @@ static void regroup_line(const char *name, const struct input *first, const stru
 {
     static contender *const runs[] = {our_regroup, rust_regroup};
     static contender *const one[] = {our_verdict};
-    struct call call = {first, second, list}, other = {second, NULL, NULL};
+    struct call call = {FIRST, first, second, list}, other = {FIRST, second, NULL, NULL};
     double ns[2], verdict_first, verdict_second;
     measure(runs, ns, 2, &call);
     measure(one, &verdict_first, 1, &call);
     measure(one, &verdict_second, 1, &other);
     double verdict = (verdict_first + verdict_second) / 2;
-    glowenzo_regroup_t r = glowenzo_regroup(first->bytes, first->length, second->bytes, second->length, list->bytes, list->length);
-    glowenzo_regroup_t s = independent_regroup(first->bytes, first->length, second->bytes, second->length, list->bytes, list->length);
+    glowenzo_regroup_t r = glowenzo_regroup(FIRST, first->bytes, first->length, second->bytes, second->length, list->bytes, list->length);
+    glowenzo_regroup_t s = independent_regroup(FIRST, first->bytes, first->length, second->bytes, second->length, list->bytes, list->length);
     printf("%-34s %4lu %9.1f %9.1f %9.1f %9.2f %9.2f %4.2f %s\n", name, (unsigned long)r.number, ns[0] / 1e3, ns[1] / 1e3, verdict / 1e3, ns[0] / ns[1],
            ns[0] / verdict, MOST_VERDICTS, bar(ns[0] / verdict, MOST_VERDICTS));
     same(name, memcmp(&r, &s, sizeof r) == 0);
@@ -280,7 +285,7 @@ static void regroup_line(const char *name, const struct input *first, const stru
 
 static void stack_line(const struct input *message, size_t base)
 {
-    struct call call = {message, NULL, NULL};
+    struct call call = {FIRST, message, NULL, NULL};
     size_t bytes = stack_touched(our_verdict, &call) - base;
     printf("verdict on %-23s %9zu %9d %s\n", message->name, bytes, MOST_STACK, bar((double)bytes, MOST_STACK));
 }
@@ -300,12 +305,13 @@ int main(int argc, char **argv)
 
     printf("verdict; times in microseconds\n%-20s %6s %4s %9s %9s %9s %9s %9s %9s %9s %9s %4s\n", "message", "bytes", "no.", "glowenzo", "rust", "libxml2",
            "expat", "ns a byte", "to rust", "to expat", "to libxml", "bar");
-    verdict_line(m1, MOST_OF_OTHERS);
+    verdict_line(FIRST, m1, MOST_OF_OTHERS);
     for (size_t i = 0; i < sizeof growing / sizeof growing[0]; i++)
-        verdict_line(input(argv[2], growing[i]), MOST_OF_OTHERS);
-    verdict_line(largest, MOST_OF_LARGEST);
+        verdict_line(FIRST, input(argv[2], growing[i]), MOST_OF_OTHERS);
+    verdict_line(FIRST, largest, MOST_OF_LARGEST);
+    verdict_line(INSTANT, input(argv[2], "64-instant.xml"), MOST_OF_OTHERS);
     for (size_t i = 0; i < sizeof refused / sizeof refused[0]; i++)
-        verdict_line(input(argv[2], refused[i]), MOST_OF_OTHERS);
+        verdict_line(FIRST, input(argv[2], refused[i]), MOST_OF_OTHERS);
 
     printf("\nregrouping; times in microseconds\n%-34s %4s %9s %9s %9s %9s %9s %4s\n", "messages", "no.", "glowenzo", "rust", "1 verdict", "to rust",
            "verdicts", "bar");
@@ -313,7 +319,7 @@ int main(int argc, char **argv)
     regroup_line("64.xml to moved.xml", largest, moved, list);
     regroup_line("64.xml to changed.xml (last field)", largest, changed, list);
 
-    struct call one = {largest, moved, list};
+    struct call one = {FIRST, largest, moved, list};
     size_t base = stack_touched(nothing, &one);
     printf("\nstack\n%-34s %9s %9s\n", "call", "bytes", "bar");
     stack_line(largest, base);

@@ -3,13 +3,15 @@
 //!     messages FOLDER
 //!
 //! N.xml: accepted, with N payments in up to 16 blocks; 64.xml is the largest that can be: 32,768 bytes, 16 blocks, 64 payments.
+//! 64-instant.xml: the same under the instant profile, with rows 56 and 58 in each block and as many bytes.
 //! moved.xml: the payments of 64.xml in opposite order, and reversed.rgl, the list for it; changed.xml: the same with the last remittance changed.
 //! The others are refused, each after as much work as its refusal allows.
 
-use independent::{regroup, verdict, Regroup, Verdict};
+use independent::{regroup, verdict, Profile, Regroup, Verdict};
 use std::io;
 use std::path::Path;
 
+const FIRST: Profile = Profile::FIRST;
 const LARGEST: usize = 32_768;
 const ACCOUNTS: [&str; 3] = ["LU566541234567890123", "LU699871234567898765", "LU415551234567898765"];
 const ROOT: &str = "<Document xmlns=\"urn:iso:std:iso:20022:tech:xsd:pain.001.001.09\">";
@@ -33,11 +35,21 @@ fn cents(ordinals: &[usize]) -> String {
     format!("{}.{:02}", cents / 100, cents % 100)
 }
 
-fn block(number: usize, ordinals: &[usize], text: &dyn Fn(usize) -> usize) -> String {
+/// What row 16 and row 22 of a block hold.
+fn kind_and_date(profile: Profile) -> [&'static str; 2] {
+    if profile.instant {
+        ["<SvcLvl><Cd>SEPA</Cd></SvcLvl><LclInstrm><Cd>INST</Cd></LclInstrm>", "<DtTm>2026-03-04T09:30:00+01:00</DtTm>"]
+    } else {
+        ["<SvcLvl><Cd>SEPA</Cd></SvcLvl>", "<Dt>2026-03-04</Dt>"]
+    }
+}
+
+fn block(profile: Profile, number: usize, ordinals: &[usize], text: &dyn Fn(usize) -> usize) -> String {
+    let [kind, date] = kind_and_date(profile);
     let payments: String = ordinals.iter().map(|ordinal| payment(*ordinal, text(*ordinal))).collect();
     format!(
         "<PmtInf><PmtInfId>B{number:02}</PmtInfId><PmtMtd>TRF</PmtMtd><NbOfTxs>{}</NbOfTxs><CtrlSum>{}</CtrlSum>\
-         <PmtTpInf><SvcLvl><Cd>SEPA</Cd></SvcLvl></PmtTpInf><ReqdExctnDt><Dt>2026-03-04</Dt></ReqdExctnDt><Dbtr><Nm>Institute</Nm></Dbtr>\
+         <PmtTpInf>{kind}</PmtTpInf><ReqdExctnDt>{date}</ReqdExctnDt><Dbtr><Nm>Institute</Nm></Dbtr>\
          <DbtrAcct><Id><IBAN>{}</IBAN></Id></DbtrAcct><DbtrAgt><FinInstnId><BICFI>AAAALULL</BICFI></FinInstnId></DbtrAgt>\n{payments}</PmtInf>\n",
         ordinals.len(),
         cents(ordinals),
@@ -46,9 +58,9 @@ fn block(number: usize, ordinals: &[usize], text: &dyn Fn(usize) -> usize) -> St
 }
 
 /// A message of these payments, in as many blocks as there may be, as equal as they go.
-fn message(ordinals: &[usize], text: &dyn Fn(usize) -> usize) -> String {
+fn message(profile: Profile, ordinals: &[usize], text: &dyn Fn(usize) -> usize) -> String {
     let each = (ordinals.len() + 15) / 16;
-    let blocks: String = ordinals.chunks(each).enumerate().map(|(number, ordinals)| block(number, ordinals, text)).collect();
+    let blocks: String = ordinals.chunks(each).enumerate().map(|(number, ordinals)| block(profile, number, ordinals, text)).collect();
     format!(
         "{ROOT}<CstmrCdtTrfInitn>\n<GrpHdr><MsgId>BENCH</MsgId><CreDtTm>2026-03-02T08:30:00</CreDtTm><NbOfTxs>{}</NbOfTxs><CtrlSum>{}</CtrlSum>\
          <InitgPty><Nm>Trials</Nm></InitgPty></GrpHdr>\n{blocks}</CstmrCdtTrfInitn></Document>\n",
@@ -58,10 +70,10 @@ fn message(ordinals: &[usize], text: &dyn Fn(usize) -> usize) -> String {
 }
 
 /// The longest texts with which the message of 64 payments is not too long; spaces at its end make it the largest.
-fn largest(ordinals: &[usize]) -> String {
-    let rest = LARGEST - message(ordinals, &|_| 1).len();
+fn largest(profile: Profile, ordinals: &[usize]) -> String {
+    let rest = LARGEST - message(profile, ordinals, &|_| 1).len();
     let text = |ordinal: usize| 1 + (rest / 64) + usize::from(ordinal < rest % 64);
-    let message = message(ordinals, &text);
+    let message = message(profile, ordinals, &text);
     format!("{message:<LARGEST$}")
 }
 
@@ -82,7 +94,11 @@ fn many(element: &str) -> String {
 }
 
 fn write(folder: &Path, name: &str, message: &str, wanted: Verdict) -> io::Result<()> {
-    assert_eq!(verdict(message.as_bytes(), &mut [0; 1024]), wanted, "{name}");
+    write_under(FIRST, folder, name, message, wanted)
+}
+
+fn write_under(profile: Profile, folder: &Path, name: &str, message: &str, wanted: Verdict) -> io::Result<()> {
+    assert_eq!(verdict(profile, message.as_bytes(), &mut [0; 1024]), wanted, "{name}");
     std::fs::write(folder.join(name).with_extension("xml"), message)
 }
 
@@ -94,24 +110,26 @@ fn main() -> io::Result<()> {
     for count in [1, 2, 4, 8, 16, 32] {
         let ordinals: Vec<usize> = (0..count).collect();
         let wanted = Verdict::Accepted { blocks: count.min(16) as u32, payments: count as u32, cents: total(count) };
-        write(folder, &count.to_string(), &message(&ordinals, &|_| 70), wanted)?;
+        write(folder, &count.to_string(), &message(FIRST, &ordinals, &|_| 70), wanted)?;
     }
     let ordinals: Vec<usize> = (0..64).collect();
     let backwards: Vec<usize> = (0..64).rev().collect();
     let accepted = Verdict::Accepted { blocks: 16, payments: 64, cents: total(64) };
-    let full = largest(&ordinals);
-    let moved = largest(&backwards);
+    let full = largest(FIRST, &ordinals);
+    let moved = largest(FIRST, &backwards);
+    let instant = largest(Profile::INSTANT, &ordinals);
     let changed = with_last(&moved, "<Ustrd>R", "<Ustrd>r");
-    assert_eq!(full.len(), LARGEST);
+    assert_eq!([full.len(), instant.len()], [LARGEST; 2]);
     write(folder, "64", &full, accepted)?;
+    write_under(Profile::INSTANT, folder, "64-instant", &instant, accepted)?;
     write(folder, "moved", &moved, accepted)?;
     write(folder, "changed", &changed, accepted)?;
     let list: Vec<u8> = [1, 64].into_iter().chain(backwards.iter().map(|ordinal| *ordinal as u16)).flat_map(u16::to_be_bytes).collect();
     let list = [b"RGL", &list[..]].concat();
     std::fs::write(folder.join("reversed.rgl"), &list)?;
-    assert_eq!(regroup(full.as_bytes(), moved.as_bytes(), &list), Regroup::Accepted);
+    assert_eq!(regroup(FIRST, full.as_bytes(), moved.as_bytes(), &list), Regroup::Accepted);
     let last = Regroup::Refused { number: 20, k: 63, field: 17 };
-    assert_eq!(regroup(full.as_bytes(), changed.as_bytes(), &list), last);
+    assert_eq!(regroup(FIRST, full.as_bytes(), changed.as_bytes(), &list), last);
 
     let last_byte = format!("{}<", &full[..LARGEST - 1]);
     write(folder, "last-byte", &last_byte, refused(2, 0, LARGEST - 1))?;

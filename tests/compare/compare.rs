@@ -4,10 +4,11 @@
 //!
 //! COMMAND runs the driver (driver.c), which calls the library. What is lent to it lies among guard bytes in one run of bytes; the driver hands back the
 //! answer and the whole run. Both must be what the independent implementation says: the answer, every byte of the table, and every other byte as it was.
-//! The inputs of the first differences are written to FOLDER. It fails on any difference, and if a refusal that can be reached never was.
+//! Each call names a profile by a number; a part of the messages and pairs is read under both. The inputs of the first differences are written to FOLDER.
+//! It fails on any difference, and if under one of the profiles a refusal that can be reached never was.
 
-use independent::generate::{self, random::Random};
-use independent::{regroup, verdict, Regroup, Verdict};
+use independent::generate::{self, random::Random, Pair};
+use independent::{regroup, verdict, Profile, Regroup, Verdict};
 use std::collections::{BTreeMap, BTreeSet};
 use std::io::{self, Read, Write};
 use std::path::Path;
@@ -24,6 +25,14 @@ const OF_MESSAGES: std::ops::RangeInclusive<u64> = 1..=14;
 const OF_PAIRS: std::ops::RangeInclusive<u64> = 15..=20;
 const FIELDS: std::ops::RangeInclusive<u64> = 1..=17;
 
+/// Refusals and rows that come of the instant rows: standing where they never may, missing, twice, or wrong.
+const OF_FIRST: [(u64, u64); 2] = [(3, 16), (3, 22)];
+const OF_INSTANT: [(u64, u64); 15] =
+    [(3, 16), (3, 22), (3, 56), (3, 57), (3, 58), (4, 18), (4, 23), (4, 56), (4, 57), (6, 57), (6, 58), (7, 57), (7, 58), (8, 57), (8, 58)];
+
+/// Numbers that name no profile, and so the first: some of their bytes or halves are those of 1.
+const UNKNOWN: [u64; 4] = [2, 257, (1 << 32) + 1, u64::MAX];
+
 #[derive(Clone, Copy, PartialEq)]
 enum Kind {
     Verdict = 1,
@@ -34,6 +43,8 @@ enum Kind {
 struct Call {
     kind: Kind,
     index: u64,
+    /// The number that names the profile.
+    profile: u64,
     lent: Vec<u8>,
     /// Place and length of each part in what is lent.
     parts: [(u32, u32); 3],
@@ -70,7 +81,7 @@ fn compare(seed: u64, messages: u64, pairs: u64, folder: &Path, command: &[Strin
     let (sender, calls) = sync_channel(16);
     // It ends when all is sent, or when the driver or this side has broken off.
     let asking = std::thread::spawn(move || ask(seed, messages, pairs, to, sender));
-    let mut seen = Seen::default();
+    let mut seen = SeenUnderEach::default();
     for call in calls {
         let (answer, after) = answer_to(&call, &mut from).map_err(|error| {
             io::Error::new(error.kind(), format!("no answer to {}: {error}", name(&call)))
@@ -99,10 +110,11 @@ fn compare(seed: u64, messages: u64, pairs: u64, folder: &Path, command: &[Strin
 
 /// Sends every call to the driver, and first to the side that compares.
 fn ask(seed: u64, messages: u64, pairs: u64, mut to: ChildStdin, compared: SyncSender<Call>) -> io::Result<()> {
-    let verdicts = (0..messages).map(|index| verdict_call(seed, index));
-    let regroups = (0..pairs).map(|index| regroup_call(seed, index));
+    let verdicts = (0..messages).flat_map(|index| verdict_calls(seed, index));
+    let regroups = (0..pairs).flat_map(|index| regroup_calls(seed, index));
     for call in verdicts.chain(regroups) {
-        let mut frame = Vec::with_capacity(32 + call.lent.len());
+        let mut frame = Vec::with_capacity(40 + call.lent.len());
+        frame.extend(call.profile.to_le_bytes());
         let parts = call.parts.iter().flat_map(|(place, length)| [*place, *length]);
         for number in [call.kind as u32, call.lent.len() as u32].into_iter().chain(parts) {
             frame.extend(number.to_le_bytes());
@@ -128,18 +140,38 @@ fn answer_to(call: &Call, from: &mut ChildStdout) -> io::Result<([u64; 6], Vec<u
     Ok((answer, after))
 }
 
-fn verdict_call(seed: u64, index: u64) -> Call {
+/// The profiles under which a case is read, as C names them: its own, and for one in eight the other too.
+fn profiles(own: Profile, random: &mut Random) -> Vec<u64> {
+    let both = [own, own.other()];
+    let many = if random.below(8) == 0 { 2 } else { 1 };
+    both[..many].iter().map(|profile| number_of(*profile, random)).collect()
+}
+
+/// Now and then the first profile has a number that names none.
+fn number_of(profile: Profile, random: &mut Random) -> u64 {
+    if !profile.instant && random.below(20) == 0 {
+        return *random.pick(&UNKNOWN);
+    }
+    profile.number()
+}
+
+fn verdict_calls(seed: u64, index: u64) -> Vec<Call> {
     let random = &mut Random::new(seed ^ 0x7AB1E, index);
     let case = generate::case(seed, index);
     let message = if random.below(1000) == 0 { Vec::new() } else { case.message };
-    let table = noise(table_bytes(case.table, random), random);
-    let (lent, parts) = lay([&message, &table, &[]], random);
-    let (answer, table) = independent_verdict(&message, table);
+    let profiles = profiles(case.profile, random);
+    profiles.into_iter().map(|profile| verdict_call(index, profile, &message, case.table, random)).collect()
+}
+
+fn verdict_call(index: u64, profile: u64, message: &[u8], numbers: usize, random: &mut Random) -> Call {
+    let table = noise(table_bytes(numbers, random), random);
+    let (lent, parts) = lay([message, &table, &[]], random);
+    let (answer, table) = independent_verdict(profile, message, table);
     let mut after = lent.clone();
     if parts[1].0 != NULL {
         after[range(parts[1])].copy_from_slice(&table);
     }
-    Call { kind: Kind::Verdict, index, lent, parts, answer, after }
+    Call { kind: Kind::Verdict, index, profile, lent, parts, answer, after }
 }
 
 /// Lengths around the least, odd ones, very short and long ones.
@@ -154,12 +186,17 @@ fn table_bytes(numbers: usize, random: &mut Random) -> usize {
     }
 }
 
-fn regroup_call(seed: u64, index: u64) -> Call {
+fn regroup_calls(seed: u64, index: u64) -> Vec<Call> {
     let random = &mut Random::new(seed ^ 0x115, index);
     let pair = generate::pair(seed, index);
+    let profiles = profiles(pair.profile, random);
+    profiles.into_iter().map(|profile| regroup_call(index, profile, &pair, random)).collect()
+}
+
+fn regroup_call(index: u64, profile: u64, pair: &Pair, random: &mut Random) -> Call {
     let (lent, parts) = lay([&pair.first, &pair.second, &pair.list], random);
-    let answer = independent_regroup(&pair.first, &pair.second, &pair.list);
-    Call { kind: Kind::Regroup, index, after: lent.clone(), lent, parts, answer }
+    let answer = independent_regroup(profile, pair);
+    Call { kind: Kind::Regroup, index, profile, after: lent.clone(), lent, parts, answer }
 }
 
 /// The parts with guard bytes around each, at any alignment. An empty part is now and then a null pointer.
@@ -187,9 +224,9 @@ fn range((place, length): (u32, u32)) -> std::ops::Range<usize> {
 }
 
 /// The independent implementation behind the exported function's interface: a table of bytes, high byte first.
-fn independent_verdict(message: &[u8], mut table: Vec<u8>) -> ([u64; 6], Vec<u8>) {
+fn independent_verdict(profile: u64, message: &[u8], mut table: Vec<u8>) -> ([u64; 6], Vec<u8>) {
     let mut numbers: Vec<u32> = table.chunks_exact(4).map(|bytes| u32::from_be_bytes(bytes.try_into().unwrap())).collect();
-    let answer = match verdict(message, &mut numbers) {
+    let answer = match verdict(Profile::numbered(profile), message, &mut numbers) {
         Verdict::Accepted { blocks, payments, cents } => [0, 0, 0, blocks.into(), payments.into(), cents],
         Verdict::Refused { number, element, offset } => [number.into(), element.into(), offset as u64, 0, 0, 0],
     };
@@ -199,8 +236,8 @@ fn independent_verdict(message: &[u8], mut table: Vec<u8>) -> ([u64; 6], Vec<u8>
     (answer, table)
 }
 
-fn independent_regroup(first: &[u8], second: &[u8], list: &[u8]) -> [u64; 6] {
-    match regroup(first, second, list) {
+fn independent_regroup(profile: u64, pair: &Pair) -> [u64; 6] {
+    match regroup(Profile::numbered(profile), &pair.first, &pair.second, &pair.list) {
         Regroup::Accepted => [0; 6],
         Regroup::Message { whose, refusal } => {
             [whose.into(), refusal.number.into(), refusal.element.into(), refusal.offset as u64, 0, 0]
@@ -211,7 +248,7 @@ fn independent_regroup(first: &[u8], second: &[u8], list: &[u8]) -> [u64; 6] {
 
 fn name(call: &Call) -> String {
     let kind = if call.kind == Kind::Verdict { "verdict" } else { "regrouping" };
-    format!("{kind} {}", call.index)
+    format!("{kind} {} profile {}", call.index, call.profile)
 }
 
 fn report(call: &Call, answer: &[u64; 6], after: &[u8], folder: &Path) -> io::Result<()> {
@@ -259,6 +296,21 @@ impl Reached {
         }
     }
 
+    fn print_numbers(&self, title: &str) {
+        let numbers: Vec<String> = self.0.iter().map(|(number, (times, _))| format!("{number} {times} times")).collect();
+        println!("{title}: {}", numbers.join(", "));
+    }
+
+    /// Says which of these rows was never refused by its number; whether all were.
+    fn on(&self, wanted: &[(u64, u64)], of: &str) -> bool {
+        let seen = |(number, row): &(u64, u64)| self.0.get(number).is_some_and(|(_, rows)| rows.contains(row));
+        let missing: Vec<&(u64, u64)> = wanted.iter().filter(|wanted| !seen(wanted)).collect();
+        if !missing.is_empty() {
+            println!("NEVER REACHED: {of} profile, refusal and row {missing:?}");
+        }
+        missing.is_empty()
+    }
+
     /// Says which of these numbers is missing; whether none is.
     fn all(&self, numbers: impl Iterator<Item = u64>, of: &str) -> bool {
         let missing: Vec<u64> = numbers.filter(|number| !self.0.contains_key(number)).collect();
@@ -270,8 +322,43 @@ impl Reached {
 }
 
 #[derive(Default)]
-struct Seen {
+struct SeenUnderEach {
     differences: usize,
+    first: Seen,
+    instant: Seen,
+    /// The numbers that named the profile of a verdict, and of a regrouping.
+    verdicts: Reached,
+    regroupings: Reached,
+}
+
+impl SeenUnderEach {
+    fn add(&mut self, call: &Call) {
+        let seen = if Profile::numbered(call.profile).instant { &mut self.instant } else { &mut self.first };
+        seen.add(call);
+        let numbers = if call.kind == Kind::Verdict { &mut self.verdicts } else { &mut self.regroupings };
+        numbers.add(call.profile, 0);
+    }
+
+    /// Whether under each profile all that can be reached was.
+    fn print(&self) -> bool {
+        self.verdicts.print_numbers("profiles of verdicts");
+        self.regroupings.print_numbers("profiles of regroupings");
+        let numbers = || [0, 1].into_iter().chain(UNKNOWN);
+        [
+            self.first.print("first"),
+            self.instant.print("instant"),
+            self.first.messages.on(&OF_FIRST, "first"),
+            self.instant.messages.on(&OF_INSTANT, "instant"),
+            self.verdicts.all(numbers(), "a verdict's profile"),
+            self.regroupings.all(numbers(), "a regrouping's profile"),
+        ]
+        .into_iter()
+        .all(|reached| reached)
+    }
+}
+
+#[derive(Default)]
+struct Seen {
     messages: Reached,
     firsts: Reached,
     seconds: Reached,
@@ -296,18 +383,19 @@ impl Seen {
     }
 
     /// Whether all that can be reached was.
-    fn print(&self) -> bool {
-        self.messages.print("verdicts", "elements");
-        self.pairs.print("regroupings", "fields");
-        self.firsts.print("regroupings, the first message refused", "elements");
-        self.seconds.print("regroupings, the second message refused", "elements");
+    fn print(&self, profile: &str) -> bool {
+        let titled = |what| format!("{profile} profile, {what}");
+        self.messages.print(&titled("verdicts"), "elements");
+        self.pairs.print(&titled("regroupings"), "fields");
+        self.firsts.print(&titled("regroupings, the first message refused"), "elements");
+        self.seconds.print(&titled("regroupings, the second message refused"), "elements");
         let none = std::iter::once(0);
         [
-            self.messages.all(none.clone().chain(OF_MESSAGES), "verdict"),
-            self.pairs.all(none.chain(OF_PAIRS), "regrouping"),
-            self.firsts.all(std::iter::once(2), "the first message's refusal"),
-            self.seconds.all(std::iter::once(2), "the second message's refusal"),
-            self.fields.all(FIELDS, "differing field"),
+            self.messages.all(none.clone().chain(OF_MESSAGES), &titled("verdict")),
+            self.pairs.all(none.chain(OF_PAIRS), &titled("regrouping")),
+            self.firsts.all(std::iter::once(2), &titled("the first message's refusal")),
+            self.seconds.all(std::iter::once(2), &titled("the second message's refusal")),
+            self.fields.all(FIELDS, &titled("differing field")),
         ]
         .into_iter()
         .all(|reached| reached)

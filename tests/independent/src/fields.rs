@@ -2,15 +2,15 @@
 
 use crate::counts::amount;
 use crate::order::{part, Order, Payment};
-use crate::read;
 use crate::rows::Node;
+use crate::{read, Profile};
 
 pub const FIELDS: std::ops::RangeInclusive<u32> = 1..=17;
 
 /// Where a field's text stands in the message, and how long it is; the empty
 /// part at 0 where there is none.
-pub fn field(message: &[u8], payment: usize, field: usize) -> (usize, usize) {
-    let Ok(accepted) = read(message) else { return (0, 0) };
+pub fn field(profile: Profile, message: &[u8], payment: usize, field: usize) -> (usize, usize) {
+    let Ok(accepted) = read(profile, message) else { return (0, 0) };
     let payments = accepted.order.payments();
     let known = payments.get(payment).zip(u32::try_from(field).ok());
     let part = part(known.and_then(|(payment, field)| element(payment, field)));
@@ -25,7 +25,7 @@ fn element<'o>(payment: &Payment<'o>, field: u32) -> Option<&'o Node> {
         1 => block.down(&[13]),
         2 => inherited(16, &[17]),
         3 => inherited(16, &[20, 21]),
-        4 => block.down(&[22, 23]),
+        4 => block.down(&[22, 23]).or_else(|| block.down(&[22, 58])),
         5 => block.down(&[24, 25]),
         6 => block.down(&[26, 27, 28]),
         7 => block.down(&[29, 30, 31]).or_else(|| block.down(&[29, 30, 32, 33])),

@@ -1,12 +1,13 @@
 //! An independent reading of the rules: the verdict on one pain.001.001.09
-//! message, the seventeen fields of its payments, and the regrouping of one
-//! message by another. Written from the rules alone.
+//! message under a profile, the seventeen fields of its payments, and the
+//! regrouping of one message by another. Written from the rules alone.
 
 pub mod counts;
 pub mod fields;
 pub mod form;
 pub mod generate;
 pub mod order;
+pub mod profile;
 pub mod regroup;
 pub mod rows;
 pub mod table;
@@ -15,6 +16,7 @@ pub mod values;
 
 pub use fields::field;
 pub use form::{form, Tree};
+pub use profile::Profile;
 pub use regroup::{differing, regroup, Regroup};
 
 use order::Order;
@@ -63,8 +65,8 @@ impl fmt::Display for Verdict {
 }
 
 /// The verdict on a message; the lent table is filled only on acceptance.
-pub fn verdict(message: &[u8], table: &mut [u32]) -> Verdict {
-    match judge(message, table) {
+pub fn verdict(profile: Profile, message: &[u8], table: &mut [u32]) -> Verdict {
+    match judge(profile, message, table) {
         Ok(accepted) => {
             table::fill(&accepted.order, table);
             Verdict::Accepted {
@@ -77,11 +79,11 @@ pub fn verdict(message: &[u8], table: &mut [u32]) -> Verdict {
     }
 }
 
-fn judge<'m>(message: &'m [u8], table: &[u32]) -> Result<Accepted<'m>, Refusal> {
+fn judge<'m>(profile: Profile, message: &'m [u8], table: &[u32]) -> Result<Accepted<'m>, Refusal> {
     if table.len() < table::LEAST_NUMBERS {
         return Err(Refusal::new(14, 0, 0));
     }
-    read(message)
+    read(profile, message)
 }
 
 pub(crate) struct Accepted<'m> {
@@ -90,12 +92,12 @@ pub(crate) struct Accepted<'m> {
 }
 
 /// All stages but the table's, in their order.
-pub(crate) fn read(message: &[u8]) -> Result<Accepted<'_>, Refusal> {
+pub(crate) fn read(profile: Profile, message: &[u8]) -> Result<Accepted<'_>, Refusal> {
     if message.len() > LONGEST_MESSAGE {
         return Err(Refusal::new(1, 0, LONGEST_MESSAGE));
     }
     let tree = form(message).map_err(|offset| Refusal::new(2, 0, offset))?;
-    let order = Order { message, root: rows::place(message, &tree)? };
+    let order = Order { message, root: rows::place(profile, message, &tree)? };
     usage::limits(&order)?;
     values::check(&order)?;
     usage::inheritance(&order)?;

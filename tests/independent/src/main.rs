@@ -1,7 +1,7 @@
 //! The command line: verdict, form, regroup, and the generator's cases.
 
-use independent::generate;
-use independent::{form, regroup, verdict, Regroup, Verdict};
+use independent::generate::{self, Case, Pair};
+use independent::{form, regroup, verdict, Profile, Regroup, Verdict};
 use std::collections::{BTreeMap, BTreeSet};
 use std::ffi::OsString;
 use std::fs;
@@ -9,12 +9,14 @@ use std::io::{self, BufWriter, Read, Write};
 use std::process::ExitCode;
 
 const USAGE: &str = "\
-independent verdict [FILE..]
+independent verdict [--instant] [FILE..]
 independent form [FILE..]
-independent regroup FIRST SECOND LIST
-independent cases SEED N     N messages, each after its length (u32, low byte first)
-independent pairs SEED N     N times first, second and list, framed in the same way
-independent count SEED N     how often each refusal is reached in N messages and N pairs";
+independent regroup [--instant] FIRST SECOND LIST
+independent cases SEED N     N messages, each after its profile and its length (u32, low byte first)
+independent pairs SEED N     N times a profile, and first, second and list after their lengths
+independent count SEED N     how often each refusal is reached in N messages and N pairs
+
+--instant: read under the instant profile";
 
 fn main() -> ExitCode {
     let arguments: Vec<OsString> = std::env::args_os().skip(1).collect();
@@ -32,11 +34,13 @@ fn main() -> ExitCode {
 /// Whether the arguments were understood.
 fn run(arguments: &[OsString], out: &mut impl Write) -> io::Result<bool> {
     let Some((command, rest)) = arguments.split_first() else { return Ok(false) };
+    let (profile, named) = profile_named(rest);
     match (command.to_str(), rest) {
-        (Some("verdict"), files) => each_file(files, verdict_lines, out)?,
+        (Some("verdict"), _) => each_file(named, |message| verdict_lines(profile, message), out)?,
         (Some("form"), files) => each_file(files, form_lines, out)?,
-        (Some("regroup"), [first, second, list]) => {
-            let answer = regroup(&contents(first), &contents(second), &contents(list));
+        (Some("regroup"), _) => {
+            let [first, second, list] = named else { return Ok(false) };
+            let answer = regroup(profile, &contents(first), &contents(second), &contents(list));
             writeln!(out, "{answer}")?;
         }
         (Some(command @ ("cases" | "pairs" | "count")), [seed, many]) => {
@@ -46,6 +50,14 @@ fn run(arguments: &[OsString], out: &mut impl Write) -> io::Result<bool> {
         _ => return Ok(false),
     }
     Ok(true)
+}
+
+/// The profile that `--instant` or its absence names, and what follows.
+fn profile_named(arguments: &[OsString]) -> (Profile, &[OsString]) {
+    match arguments.split_first() {
+        Some((flag, rest)) if flag == "--instant" => (Profile::INSTANT, rest),
+        _ => (Profile::FIRST, arguments),
+    }
 }
 
 fn number(argument: &OsString) -> Option<u64> {
@@ -59,7 +71,7 @@ fn contents(file: &OsString) -> Vec<u8> {
 
 fn each_file(
     files: &[OsString],
-    lines: fn(&[u8]) -> Vec<String>,
+    lines: impl Fn(&[u8]) -> Vec<String>,
     out: &mut impl Write,
 ) -> io::Result<()> {
     if files.is_empty() {
@@ -84,9 +96,9 @@ fn form_lines(message: &[u8]) -> Vec<String> {
     }]
 }
 
-fn verdict_lines(message: &[u8]) -> Vec<String> {
+fn verdict_lines(profile: Profile, message: &[u8]) -> Vec<String> {
     let mut table = [0; 1024];
-    let answer = verdict(message, &mut table);
+    let answer = verdict(profile, message, &mut table);
     let payments = match answer {
         Verdict::Accepted { payments, .. } => payments as usize,
         Verdict::Refused { .. } => 0,
@@ -108,18 +120,24 @@ fn payment_line(message: &[u8], ordinal: usize, row: &[u32]) -> String {
 
 fn generated(command: &str, seed: u64, many: u64, out: &mut impl Write) -> io::Result<()> {
     match command {
-        "cases" => (0..many).try_for_each(|index| frame(&generate::case(seed, index).message, out)),
+        "cases" => (0..many).try_for_each(|index| {
+            let case = generate::case(seed, index);
+            framed(case.profile, &[case.message], out)
+        }),
         "pairs" => (0..many).try_for_each(|index| {
             let pair = generate::pair(seed, index);
-            [pair.first, pair.second, pair.list].iter().try_for_each(|bytes| frame(bytes, out))
+            framed(pair.profile, &[pair.first, pair.second, pair.list], out)
         }),
         _ => count(seed, many, out),
     }
 }
 
-fn frame(bytes: &[u8], out: &mut impl Write) -> io::Result<()> {
-    out.write_all(&(bytes.len() as u32).to_le_bytes())?;
-    out.write_all(bytes)
+fn framed(profile: Profile, parts: &[Vec<u8>], out: &mut impl Write) -> io::Result<()> {
+    out.write_all(&(profile.number() as u32).to_le_bytes())?;
+    parts.iter().try_for_each(|bytes| {
+        out.write_all(&(bytes.len() as u32).to_le_bytes())?;
+        out.write_all(bytes)
+    })
 }
 
 /// How often each number was reached, and on which elements or fields.
@@ -145,20 +163,36 @@ impl Reached {
 }
 
 fn count(seed: u64, many: u64, out: &mut impl Write) -> io::Result<()> {
-    let (mut messages, mut pairs) = (Reached::default(), Reached::default());
-    for index in 0..many {
-        let case = generate::case(seed, index);
-        match verdict(&case.message, &mut vec![0; case.table]) {
-            Verdict::Accepted { .. } => messages.add(0, 0),
-            Verdict::Refused { number, element, .. } => messages.add(number, element),
-        }
-        let pair = generate::pair(seed, index);
-        match regroup(&pair.first, &pair.second, &pair.list) {
-            Regroup::Accepted => pairs.add(0, 0),
-            Regroup::Message { refusal, .. } => pairs.add(refusal.number, refusal.element),
-            Regroup::Refused { number, field, .. } => pairs.add(number, field),
+    for (profile, name) in Profile::BOTH.into_iter().zip(["first", "instant"]) {
+        let cases = (0..many).map(|index| generate::case(seed, index));
+        let pairs = (0..many).map(|index| generate::pair(seed, index));
+        reached_by(cases.filter(|case| case.profile == profile))
+            .print(&format!("{name} profile, messages (refusal, times, elements)"), out)?;
+        reached_by_pairs(pairs.filter(|pair| pair.profile == profile))
+            .print(&format!("{name} profile, pairs (refusal, times, elements or fields)"), out)?;
+    }
+    Ok(())
+}
+
+fn reached_by(cases: impl Iterator<Item = Case>) -> Reached {
+    let mut reached = Reached::default();
+    for case in cases {
+        match verdict(case.profile, &case.message, &mut vec![0; case.table]) {
+            Verdict::Accepted { .. } => reached.add(0, 0),
+            Verdict::Refused { number, element, .. } => reached.add(number, element),
         }
     }
-    messages.print("messages (refusal, times, elements)", out)?;
-    pairs.print("pairs (refusal, times, elements or fields)", out)
+    reached
+}
+
+fn reached_by_pairs(pairs: impl Iterator<Item = Pair>) -> Reached {
+    let mut reached = Reached::default();
+    for pair in pairs {
+        match regroup(pair.profile, &pair.first, &pair.second, &pair.list) {
+            Regroup::Accepted => reached.add(0, 0),
+            Regroup::Message { refusal, .. } => reached.add(refusal.number, refusal.element),
+            Regroup::Refused { number, field, .. } => reached.add(number, field),
+        }
+    }
+    reached
 }

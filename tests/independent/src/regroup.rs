@@ -1,7 +1,7 @@
 //! The regrouping list: refusals 15 to 20 and the differing part.
 
 use crate::fields::lowest_difference;
-use crate::{read, Accepted, Refusal};
+use crate::{read, Accepted, Profile, Refusal};
 use std::fmt;
 
 #[derive(Clone, Copy, Debug, PartialEq, Eq)]
@@ -32,9 +32,10 @@ impl fmt::Display for Regroup {
     }
 }
 
-/// Whether the second message regroups the first by that list.
-pub fn regroup(first: &[u8], second: &[u8], list: &[u8]) -> Regroup {
-    match read_both(first, second).and_then(|(first, second)| judge(&first, &second, list)) {
+/// Whether the second message regroups the first by that list; one profile for both.
+pub fn regroup(profile: Profile, first: &[u8], second: &[u8], list: &[u8]) -> Regroup {
+    let both = read_both(profile, first, second);
+    match both.and_then(|(first, second)| judge(&first, &second, list)) {
         Ok(()) => Regroup::Accepted,
         Err(refused) => refused,
     }
@@ -42,19 +43,20 @@ pub fn regroup(first: &[u8], second: &[u8], list: &[u8]) -> Regroup {
 
 /// For refusal 20, where the differing field's text stands in the second
 /// message; otherwise the empty part at 0.
-pub fn differing(first: &[u8], second: &[u8], list: &[u8]) -> (usize, usize) {
-    let Regroup::Refused { number: 20, k, field } = regroup(first, second, list) else {
+pub fn differing(profile: Profile, first: &[u8], second: &[u8], list: &[u8]) -> (usize, usize) {
+    let Regroup::Refused { number: 20, k, field } = regroup(profile, first, second, list) else {
         return (0, 0);
     };
-    crate::field(second, k as usize, field as usize)
+    crate::field(profile, second, k as usize, field as usize)
 }
 
 fn read_both<'f, 's>(
+    profile: Profile,
     first: &'f [u8],
     second: &'s [u8],
 ) -> Result<(Accepted<'f>, Accepted<'s>), Regroup> {
-    let first = read(first).map_err(|refusal| Regroup::Message { whose: 1, refusal })?;
-    let second = read(second).map_err(|refusal| Regroup::Message { whose: 2, refusal })?;
+    let first = read(profile, first).map_err(|refusal| Regroup::Message { whose: 1, refusal })?;
+    let second = read(profile, second).map_err(|refusal| Regroup::Message { whose: 2, refusal })?;
     Ok((first, second))
 }
 

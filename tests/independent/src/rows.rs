@@ -1,7 +1,8 @@
 //! The rows, and refusals 3 and 4: one walk in the order of the file.
 
 use crate::form::{is_white, Element, Part, Tree};
-use crate::Refusal;
+use crate::{Profile, Refusal};
+use std::collections::BTreeSet;
 
 enum Place {
     One(u32),
@@ -31,7 +32,8 @@ const fn group(number: u32, tag: &'static str, places: &'static [Place]) -> Row 
     Row { number, tag, holds: Holds::Places(places) }
 }
 
-static ROWS: [Row; 55] = [
+/// The first profile's rows, and behind them those that the instant one has as well.
+static ROWS: [Row; 58] = [
     group(1, "Document", &[One(2)]),
     group(2, "CstmrCdtTrfInitn", &[One(3), Several(10)]),
     group(3, "GrpHdr", &[One(4), One(5), One(6), One(7), One(8)]),
@@ -121,17 +123,31 @@ static ROWS: [Row; 55] = [
     group(53, "CdOrPrtry", &[One(19)]),
     leaf(54, "Issr", 35),
     leaf(55, "Ref", 35),
+    group(56, "LclInstrm", &[One(57)]),
+    leaf(57, "Cd", 35),
+    leaf(58, "DtTm", 25),
+];
+
+/// The rows that are others in the instant profile.
+static INSTANT_ROWS: [Row; 2] = [
+    group(16, "PmtTpInf", &[Optional(17), One(18), One(56), Optional(20)]),
+    group(22, "ReqdExctnDt", &[Choice(23, 58)]),
 ];
 
 /// The FinInstnId of a creditor's agent (row 43) holds only row 31.
 static CREDITOR_FIN_INSTN_ID: Row = group(30, "FinInstnId", &[One(31)]);
 
-fn row(number: u32, parent: u32) -> &'static Row {
+fn row(profile: Profile, number: u32, parent: u32) -> &'static Row {
     if (number, parent) == (30, 43) {
-        &CREDITOR_FIN_INSTN_ID
-    } else {
-        &ROWS[number as usize - 1]
+        return &CREDITOR_FIN_INSTN_ID;
     }
+    let other = INSTANT_ROWS.iter().find(|row| profile.instant && row.number == number);
+    other.unwrap_or(shared_row(number))
+}
+
+/// The first profile's row; its tag, and a leaf's length, are those of every profile.
+fn shared_row(number: u32) -> &'static Row {
+    &ROWS[number as usize - 1]
 }
 
 /// The longest length of a leaf's text; none for a group or no row.
@@ -142,9 +158,26 @@ pub fn longest(number: u32) -> Option<usize> {
     }
 }
 
-/// The tags of all rows, row 1's first.
+/// The tags of all rows of both profiles, row 1's first.
 pub fn tags() -> impl Iterator<Item = &'static str> {
     ROWS.iter().map(|row| row.tag)
+}
+
+/// The rows of a profile: row 1 and all that can stand in one of them.
+pub fn rows_of(profile: Profile) -> BTreeSet<u32> {
+    let mut rows = BTreeSet::new();
+    let mut waiting = vec![1];
+    while let Some(number) = waiting.pop() {
+        if let (true, Holds::Places(places)) = (rows.insert(number), &row(profile, number, 0).holds)
+        {
+            waiting.extend(places.iter().flat_map(Place::rows));
+        }
+    }
+    rows
+}
+
+pub fn tag(number: u32) -> &'static str {
+    shared_row(number).tag
 }
 
 /// An element whose row is known.
@@ -170,16 +203,23 @@ impl Node {
 }
 
 /// The message's elements with their rows, or refusal 3 or 4.
-pub fn place(message: &[u8], tree: &Tree) -> Result<Node, Refusal> {
-    node(message, &tree.root, row(1, 0))
+pub fn place(profile: Profile, message: &[u8], tree: &Tree) -> Result<Node, Refusal> {
+    node(Reading { profile, message }, &tree.root, row(profile, 1, 0))
 }
 
-fn node(message: &[u8], element: &Element, row: &Row) -> Result<Node, Refusal> {
+/// A message and the profile under which it is read.
+#[derive(Clone, Copy)]
+struct Reading<'m> {
+    profile: Profile,
+    message: &'m [u8],
+}
+
+fn node(reading: Reading, element: &Element, row: &Row) -> Result<Node, Refusal> {
     let children = match row.holds {
         Holds::Text(_) => refuse_child_in_leaf(element, row)?,
         Holds::Places(places) => {
-            refuse_text_in_group(message, element, row)?;
-            children(message, element, row, places)?
+            refuse_text_in_group(reading.message, element, row)?;
+            children(reading, element, row, places)?
         }
     };
     Ok(Node {
@@ -211,11 +251,12 @@ fn refuse_text_in_group(message: &[u8], group: &Element, row: &Row) -> Result<()
 
 /// Each place in turn takes the children that stand next and belong to it.
 fn children(
-    message: &[u8],
+    reading: Reading,
     parent: &Element,
     row: &Row,
     places: &[Place],
 ) -> Result<Vec<Node>, Refusal> {
+    let Reading { profile, message } = reading;
     let mut waiting = parent.children.as_slice();
     let mut nodes = Vec::new();
     for (position, place) in places.iter().enumerate() {
@@ -223,7 +264,7 @@ fn children(
         while let Some((child, rest)) = waiting.split_first() {
             let full = nodes.len() > before && !place.repeats();
             let Some(number) = place.row_of(message, child).filter(|_| !full) else { break };
-            nodes.push(node(message, child, self::row(number, row.number))?);
+            nodes.push(node(reading, child, self::row(profile, number, row.number))?);
             waiting = rest;
         }
         if nodes.len() == before && place.required() {
@@ -277,7 +318,7 @@ impl Place {
 
     fn row_of(&self, message: &[u8], child: &Element) -> Option<u32> {
         let name = child.name.of(message);
-        self.rows().into_iter().find(|number| row(*number, 0).tag.as_bytes() == name)
+        self.rows().into_iter().find(|number| tag(*number).as_bytes() == name)
     }
 }
 
@@ -285,12 +326,21 @@ impl Place {
 mod tests {
     use super::*;
 
+    fn places(row: &Row) -> &'static [Place] {
+        match row.holds {
+            Holds::Places(places) => places,
+            Holds::Text(_) => &[],
+        }
+    }
+
     #[test]
     fn every_row_stands_at_its_number_and_every_place_names_a_row() {
         for (index, row) in ROWS.iter().enumerate() {
             assert_eq!(row.number as usize, index + 1);
+        }
+        for row in ROWS.iter().chain(&INSTANT_ROWS) {
             if let Holds::Places(places) = row.holds {
-                assert!(places.iter().flat_map(Place::rows).all(|r| (1..=55).contains(&r)));
+                assert!(places.iter().flat_map(Place::rows).all(|r| (1..=58).contains(&r)));
                 assert!(places.iter().any(Place::required));
             }
         }
@@ -298,15 +348,26 @@ mod tests {
 
     #[test]
     fn no_group_has_one_tag_in_two_places() {
-        for row in &ROWS {
-            let Holds::Places(places) = row.holds else { continue };
-            let mut rows: Vec<u32> = places.iter().flat_map(Place::rows).collect();
+        for row in ROWS.iter().chain(&INSTANT_ROWS) {
+            let mut rows: Vec<u32> = places(row).iter().flat_map(Place::rows).collect();
             rows.dedup();
-            let mut tags: Vec<&str> = rows.iter().map(|r| super::row(*r, 0).tag).collect();
+            let mut tags: Vec<&str> = rows.iter().map(|r| tag(*r)).collect();
             tags.sort_unstable();
             let all = tags.len();
             tags.dedup();
             assert_eq!(tags.len(), all, "row {}", row.number);
         }
+    }
+
+    #[test]
+    fn the_instant_profile_is_the_first_with_rows_16_and_22_replaced_and_56_to_58_added() {
+        assert_eq!(rows_of(Profile::FIRST), (1..=55).collect());
+        assert_eq!(rows_of(Profile::INSTANT), (1..=58).collect());
+        let other = |number: &u32| {
+            let [first, instant] = Profile::BOTH.map(|profile| row(profile, *number, 0));
+            assert_eq!(first.tag, instant.tag);
+            !std::ptr::eq(first, instant)
+        };
+        assert_eq!((1..=58).filter(other).collect::<Vec<u32>>(), [16, 22]);
     }
 }

@@ -88,6 +88,8 @@ fn value_allowed(row: u32, parent: u32, text: &[u8]) -> bool {
         33 => text == b"NOTPROVIDED",
         36 => text == b"SLEV",
         42 => cents(text).is_some_and(|cents| (1..=99_999_999_999).contains(&cents)),
+        57 => text == b"INST",
+        58 => date_time_and_zone(text),
         _ => true,
     }
 }
@@ -169,6 +171,19 @@ fn time(text: &[u8]) -> bool {
     let [h1, h2, b':', m1, m2, b':', s1, s2] = *text else { return false };
     let under = |digits: [u8; 2], limit| number(&digits).is_some_and(|value| value < limit);
     under([h1, h2], 24) && under([m1, m2], 60) && under([s1, s2], 60)
+}
+
+fn date_time_and_zone(text: &[u8]) -> bool {
+    text.len() >= 19 && date_and_time(&text[..19]) && zone(&text[19..])
+}
+
+/// `Z`, or a sign and hh:mm up to 14:00.
+fn zone(text: &[u8]) -> bool {
+    let [b'+' | b'-', h1, h2, b':', m1, m2] = *text else { return text == b"Z" };
+    let (Some(hours), Some(minutes)) = (number(&[h1, h2]), number(&[m1, m2])) else {
+        return false;
+    };
+    minutes < 60 && 60 * hours + minutes <= 14 * 60
 }
 
 fn bic(text: &[u8]) -> bool {

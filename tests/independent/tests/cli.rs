@@ -48,6 +48,9 @@ fn verdict_and_form() {
     let named: String = ACCEPTED.lines().map(|line| format!("{one}: {line}\n")).collect();
     assert_eq!(both, format!("{named}{two}: {line}"));
     assert_eq!(printed(&["verdict", "no such file"], b""), "REFUSED 2 element=0 offset=0\n");
+    assert_eq!(printed(&["verdict", "--instant"], i1().as_bytes()), ACCEPTED);
+    assert_eq!(printed(&["verdict", "--instant", &one], b""), "REFUSED 4 element=56 offset=371\n");
+    assert_eq!(printed(&["verdict"], i1().as_bytes()), "REFUSED 3 element=16 offset=371\n");
     assert_eq!(printed(&["form"], M1.as_bytes()), "of the form\n");
     assert_eq!(printed(&["form"], b"<Document>"), "refused at 9\n");
 }
@@ -66,6 +69,12 @@ fn regrouping() {
     assert_eq!(answer([&first, &third, "no such list"]), "REFUSED 16 k=0 field=0\n");
     assert_eq!(answer([&wrong, "none", &rising]), "FIRST REFUSED 7 element=4 offset=100\n");
     assert_eq!(answer([&first, "none", &rising]), "SECOND REFUSED 2 element=0 offset=0\n");
+    let instant = file("instant.xml", i1().as_bytes());
+    let answer =
+        |arguments: [&str; 3]| printed(&[&["regroup", "--instant"][..], &arguments].concat(), b"");
+    assert_eq!(answer([&instant, &instant, &rising]), "ACCEPTED\n");
+    assert_eq!(answer([&instant, &instant, &falling]), "REFUSED 20 k=0 field=10\n");
+    assert_eq!(answer([&instant, &first, &rising]), "SECOND REFUSED 4 element=56 offset=371\n");
 }
 
 #[test]
@@ -74,18 +83,30 @@ fn framed_cases() {
     assert_eq!(code, Some(0));
     let mut rest = &framed[..];
     for index in 0..20 {
-        let (length, after) = rest.split_first_chunk::<4>().unwrap();
+        let (profile, after) = rest.split_first_chunk::<4>().unwrap();
+        let (length, after) = after.split_first_chunk::<4>().unwrap();
         let (message, after) = after.split_at(u32::from_le_bytes(*length) as usize);
-        assert_eq!(message, independent::generate::case(5, index).message);
+        let case = independent::generate::case(5, index);
+        assert_eq!(u64::from(u32::from_le_bytes(*profile)), case.profile.number());
+        assert_eq!(message, case.message);
         rest = after;
     }
     assert!(rest.is_empty());
-    assert!(printed(&["count", "5", "20"], b"").starts_with("messages"));
+    let counted = printed(&["count", "5", "20"], b"");
+    assert!(counted.starts_with("first profile, messages"));
+    assert!(counted.contains("\ninstant profile, pairs"));
 }
 
 #[test]
 fn wrong_arguments_are_answered_with_the_usage() {
-    for arguments in [&[][..], &["what"], &["regroup", "a"], &["cases", "x", "1"], &["count"]] {
+    for arguments in [
+        &[][..],
+        &["what"],
+        &["regroup", "a"],
+        &["regroup", "--instant", "a", "b"],
+        &["cases", "x", "1"],
+        &["count"],
+    ] {
         assert_eq!(run(arguments, b""), (Vec::new(), Some(2)));
     }
 }

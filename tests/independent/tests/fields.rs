@@ -4,7 +4,7 @@ mod common;
 use common::asked::{self, Asked};
 use common::pairs::{self, Pair};
 use common::*;
-use independent::{differing, field, regroup, verdict, Regroup, Verdict};
+use independent::{differing, field, regroup, verdict, Profile, Regroup, Verdict};
 use std::collections::BTreeSet;
 
 /// The fields that a payment need not have.
@@ -41,11 +41,10 @@ struct Of<'m> {
 }
 
 fn fields_of(asked: &Asked) -> Vec<Of<'_>> {
-    let Asked { message, payment, fields, .. } = asked;
+    let Asked { profile, message, payment, fields, .. } = asked;
     let mut table = [0; 1024];
-    let Verdict::Accepted { payments, .. } = verdict(message.as_bytes(), &mut table) else {
-        return Vec::new();
-    };
+    let answer = verdict(*profile, message.as_bytes(), &mut table);
+    let Verdict::Accepted { payments, .. } = answer else { return Vec::new() };
     if *payment >= payments as usize {
         return Vec::new();
     }
@@ -53,7 +52,7 @@ fn fields_of(asked: &Asked) -> Vec<Of<'_>> {
     let known = fields.clone().filter(|number| (1..=17).contains(number));
     known
         .map(|number| {
-            let part = field(message.as_bytes(), *payment, number);
+            let part = field(*profile, message.as_bytes(), *payment, number);
             let found = Found::new(message, part);
             Of { number, found, block, inherited: part.0 < offset }
         })
@@ -110,21 +109,55 @@ fn unknown_payments_and_fields_are_asked_for() {
     for payment in [1, 63, 1 << 32, usize::MAX] {
         assert!(asks(payment, 10), "{payment}");
     }
-    let refusals = all.iter().filter_map(|asked| match judge(&asked.message) {
+    assert_eq!(refusals(&all, Profile::FIRST), BTreeSet::from([2, 3, 4, 6, 7, 8, 9, 10, 12, 13]));
+    assert_eq!(refusals(&all, Profile::INSTANT), BTreeSet::from([3, 4, 6, 8]));
+    assert!(all.iter().any(|asked| asked.message.is_empty()));
+}
+
+/// The refusals of the messages that are asked under this profile.
+fn refusals(all: &[Asked], profile: Profile) -> BTreeSet<u32> {
+    let under = all.iter().filter(|asked| asked.profile == profile);
+    let refusals = under.filter_map(|asked| match judge_under(profile, &asked.message) {
         Verdict::Refused { number, .. } => Some(number),
         Verdict::Accepted { .. } => None,
     });
-    let refusals: BTreeSet<u32> = refusals.collect();
-    assert_eq!(refusals, BTreeSet::from([2, 3, 4, 6, 7, 8, 9, 10, 12, 13]));
-    assert!(all.iter().any(|asked| asked.message.is_empty()));
+    refusals.collect()
+}
+
+#[test]
+fn under_the_instant_profile_every_field_is_asked_for_and_field_4_in_both_ways() {
+    let (instant, first): (Vec<Asked>, Vec<Asked>) =
+        asked::all().into_iter().partition(|asked| asked.profile.instant);
+    assert_eq!(numbers(&instant, |of| !of.found.text.is_empty()), every_field());
+    let names = |all: &[Asked]| {
+        let dates = all.iter().flat_map(fields_of).filter(|of| of.number == 4);
+        dates.map(|of| of.found.name().to_string()).collect::<BTreeSet<String>>()
+    };
+    let both = BTreeSet::from(["Dt".to_string(), "DtTm".to_string()]);
+    assert_eq!(names(&instant), both);
+    assert_eq!(names(&first), BTreeSet::from(["Dt".to_string()]));
+}
+
+#[test]
+fn a_message_of_the_other_profile_is_asked_for_each_way_and_has_no_field() {
+    for profile in Profile::BOTH {
+        let accepted = accepted(1, 2, 3510);
+        let other = |asked: &&Asked| {
+            asked.profile == profile && judge_under(profile.other(), &asked.message) == accepted
+        };
+        let all = asked::all();
+        let found: Vec<&Asked> = all.iter().filter(other).collect();
+        assert!(!found.is_empty(), "{profile:?}");
+        assert!(found.iter().flat_map(|asked| asked.texts()).all(|(_, text)| text.is_empty()));
+    }
 }
 
 /// The answers of a pair, with what is handed back.
 fn answers(pair: &Pair) -> [(Regroup, Found<'_>); 2] {
     pair.ways().map(|(first, second)| {
         let (one, two) = (first.as_bytes(), second.as_bytes());
-        let found = Found::new(second, differing(one, two, &pair.list));
-        (regroup(one, two, &pair.list), found)
+        let found = Found::new(second, differing(pair.profile, one, two, &pair.list));
+        (regroup(pair.profile, one, two, &pair.list), found)
     })
 }
 
@@ -154,6 +187,29 @@ fn every_field_differs_where_both_have_it_and_where_one_has_it() {
     assert_eq!(fields(0), every_field());
     assert_eq!(fields(1), OPTIONAL);
     assert!(fields(2).is_empty());
+}
+
+#[test]
+fn under_the_instant_profile_dates_differ_in_zone_in_time_and_in_kind() {
+    let pairs = pairs::all().into_iter().filter(|pair| pair.profile.instant);
+    let pairs: Vec<Pair> = pairs.collect();
+    let differences = differences(&pairs);
+    let dates = differences.iter().filter(|(field, _)| *field == 4);
+    let seen: BTreeSet<([&str; 2], bool)> = dates
+        .map(|(_, [one, other])| {
+            let time = |found: &Found| found.text.get(..19).map(str::to_string);
+            ([one.name(), other.name()], time(one) == time(other))
+        })
+        .collect();
+    let (day, moment) = ("Dt", "DtTm");
+    for wanted in [
+        ([moment, moment], true),
+        ([moment, moment], false),
+        ([day, day], true),
+        ([moment, day], false),
+    ] {
+        assert!(seen.contains(&wanted), "{wanted:?} in {seen:?}");
+    }
 }
 
 #[test]

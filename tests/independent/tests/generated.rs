@@ -5,13 +5,14 @@ mod common;
 use common::list;
 use independent::generate::transfer::{Remittance, Transfer};
 use independent::generate::{case, pair, sound_message};
-use independent::{differing, field, form, regroup, verdict, Regroup, Verdict};
+use independent::rows::{rows_of, tag};
+use independent::{differing, field, form, regroup, verdict, Profile, Regroup, Verdict};
 use std::collections::{BTreeMap, BTreeSet};
 
 const SEED: u64 = 2026;
 
-fn text(message: &[u8], payment: usize, number: usize) -> &str {
-    let (start, length) = field(message, payment, number);
+fn text(profile: Profile, message: &[u8], payment: usize, number: usize) -> &str {
+    let (start, length) = field(profile, message, payment, number);
     std::str::from_utf8(&message[start..start + length]).unwrap()
 }
 
@@ -29,7 +30,7 @@ fn expected_texts(transfer: &Transfer) -> [Option<String>; 17] {
         (!side.batch).then(|| "false".to_string()),
         transfer.kind.high.then(|| "HIGH".to_string()),
         absent(&transfer.kind.category),
-        Some(side.date.clone()),
+        Some(side.date.text().to_string()),
         Some(side.debtor.clone()),
         Some(side.account.clone()),
         Some(agent),
@@ -48,12 +49,12 @@ fn expected_texts(transfer: &Transfer) -> [Option<String>; 17] {
 
 #[test]
 fn sound_messages_are_accepted_with_the_fields_they_were_made_of() {
-    for index in 0..120 {
-        let sound = sound_message(SEED, index);
+    for (profile, index) in under_both(100) {
+        let sound = sound_message(profile, SEED, index);
         for (payment, transfer) in sound.transfers.iter().enumerate().step_by(5) {
             let fields = expected_texts(transfer);
             for (number, wanted) in (1..).zip(&fields) {
-                let found = text(&sound.message, payment, number);
+                let found = text(profile, &sound.message, payment, number);
                 match wanted {
                     Some(wanted) => assert_eq!(found, wanted, "field {number}"),
                     None => assert!(number == 11 || ["", "true", "NORM"].contains(&found)),
@@ -63,12 +64,17 @@ fn sound_messages_are_accepted_with_the_fields_they_were_made_of() {
     }
 }
 
+/// Both profiles with so many indices each.
+fn under_both(many: u64) -> impl Iterator<Item = (Profile, u64)> {
+    Profile::BOTH.into_iter().flat_map(move |profile| (0..many).map(move |index| (profile, index)))
+}
+
 #[test]
 fn sound_messages_fill_the_table() {
-    for index in 0..600 {
-        let sound = sound_message(SEED + 1, index);
+    for (profile, index) in under_both(400) {
+        let sound = sound_message(profile, SEED + 1, index);
         let mut table = vec![0xABCD; 1040];
-        let answer = verdict(&sound.message, &mut table);
+        let answer = verdict(profile, &sound.message, &mut table);
         let Verdict::Accepted { blocks, payments, cents } = answer else { panic!("{answer:?}") };
         assert_eq!(payments as usize, sound.transfers.len());
         assert_eq!(cents, sound.transfers.iter().map(|transfer| transfer.cents).sum::<u64>());
@@ -86,6 +92,7 @@ fn sound_messages_fill_the_table() {
             assert_eq!(part(at + 7), transfer.ultimate_debtor.as_deref().unwrap_or(""));
             assert_eq!(transfer.ultimate_debtor.is_none(), table[at + 7] == 0);
             assert!(part(at + 9).contains("<SvcLvl>"));
+            assert_eq!(part(at + 9).contains("</LclInstrm>"), profile.instant);
             assert_eq!(part(at + 9).contains("HIGH"), transfer.kind.high);
             assert_eq!(part(at + 11), transfer.side.account);
             assert_eq!(u64::from(table[at + 13]) * 100 + u64::from(table[at + 14]), transfer.cents);
@@ -97,34 +104,61 @@ fn sound_messages_fill_the_table() {
 
 #[test]
 fn sound_messages_span_the_subset() {
-    let sounds: Vec<_> = (0..1500).map(|index| sound_message(SEED + 2, index)).collect();
-    let has = |piece: &str| {
-        sounds.iter().any(|sound| String::from_utf8_lossy(&sound.message).contains(piece))
-    };
-    for tag in independent::rows::tags() {
-        assert!(has(&format!("</{tag}>")), "{tag}");
+    for profile in Profile::BOTH {
+        let sounds: Vec<_> =
+            (0..1000).map(|index| sound_message(profile, SEED + 2, index)).collect();
+        let has = |piece: &str| {
+            sounds.iter().any(|sound| String::from_utf8_lossy(&sound.message).contains(piece))
+        };
+        for row in rows_of(profile) {
+            assert!(has(&format!("</{}>", tag(row))), "row {row}");
+        }
+        assert!(has("<?xml") && has("\r\n") && has("\t") && has("Othr"));
+        for zone in ["Z</DtTm>", "+14:00<", "-14:00<", "+00:00<", "-00:00<"] {
+            assert_eq!(has(zone), profile.instant, "{zone}");
+        }
+        assert!(sounds.iter().any(|sound| sound.message.starts_with(b"<Doc")));
+        let mut blocks = BTreeSet::new();
+        let mut payments = BTreeSet::new();
+        for sound in &sounds {
+            let answer = verdict(profile, &sound.message, &mut [0; 1024]);
+            let Verdict::Accepted { blocks: b, payments: p, .. } = answer else {
+                panic!("{answer:?}")
+            };
+            blocks.insert(b);
+            payments.insert(p);
+        }
+        assert_eq!(blocks, (1..=16).collect());
+        assert!(payments.len() > 50 && payments.contains(&1) && payments.contains(&64));
     }
-    assert!(has("<?xml") && has("\r\n") && has("\t") && has("Othr"));
-    assert!(sounds.iter().any(|sound| sound.message.starts_with(b"<Doc")));
-    let mut blocks = BTreeSet::new();
-    let mut payments = BTreeSet::new();
-    for sound in &sounds {
-        let answer = verdict(&sound.message, &mut [0; 1024]);
-        let Verdict::Accepted { blocks: b, payments: p, .. } = answer else { panic!("{answer:?}") };
-        blocks.insert(b);
-        payments.insert(p);
+}
+
+#[test]
+fn a_sound_message_is_refused_under_the_other_profile() {
+    for (profile, index) in under_both(300) {
+        let message = sound_message(profile, SEED + 5, index).message;
+        let answer = verdict(profile.other(), &message, &mut [0; 1024]);
+        let Verdict::Refused { number, element, offset } = answer else { panic!("{answer:?}") };
+        let at = &message[offset..];
+        match (profile.instant, element) {
+            (true, 16) => assert!(number == 3 && at.starts_with(b"<LclInstrm>")),
+            (true, _) => assert!(number == 3 && element == 22 && at.starts_with(b"<DtTm>")),
+            (false, _) => {
+                assert_eq!((number, element), (4, 56));
+                assert!(at.starts_with(b"<CtgyPurp>") || at.starts_with(b"</PmtTpInf>"));
+            }
+        }
     }
-    assert_eq!(blocks, (1..=16).collect());
-    assert!(payments.len() > 50 && payments.contains(&1) && payments.contains(&64));
 }
 
 #[test]
 fn every_reachable_refusal_of_a_message_is_reached() {
-    let mut reached: BTreeMap<u32, BTreeSet<u32>> = BTreeMap::new();
-    for index in 0..4000 {
+    let mut under: BTreeMap<u64, BTreeMap<u32, BTreeSet<u32>>> = BTreeMap::new();
+    for index in 0..8000 {
         let case = case(SEED, index);
+        let reached = under.entry(case.profile.number()).or_default();
         let mut table = vec![index as u32; case.table];
-        match verdict(&case.message, &mut table) {
+        match verdict(case.profile, &case.message, &mut table) {
             Verdict::Accepted { .. } => drop(reached.entry(0).or_default()),
             Verdict::Refused { number, element, offset } => {
                 reached.entry(number).or_default().insert(element);
@@ -133,33 +167,44 @@ fn every_reachable_refusal_of_a_message_is_reached() {
             }
         }
     }
-    let numbers: Vec<u32> = reached.keys().copied().collect();
-    assert_eq!(numbers, (0..=14).collect::<Vec<_>>());
-    assert_eq!(reached[&5], BTreeSet::from([10, 37]));
-    assert_eq!(reached[&9], BTreeSet::from([16, 34, 36]));
-    assert_eq!(reached[&12], BTreeSet::from([6, 14]));
-    assert_eq!(reached[&13], BTreeSet::from([7, 15]));
-    assert!([3, 4, 6, 7, 8].iter().all(|number| reached[number].len() >= 15));
+    assert_eq!(under.len(), 2);
+    for reached in under.values() {
+        let numbers: Vec<u32> = reached.keys().copied().collect();
+        assert_eq!(numbers, (0..=14).collect::<Vec<_>>());
+        assert_eq!(reached[&5], BTreeSet::from([10, 37]));
+        assert_eq!(reached[&9], BTreeSet::from([16, 34, 36]));
+        assert_eq!(reached[&12], BTreeSet::from([6, 14]));
+        assert_eq!(reached[&13], BTreeSet::from([7, 15]));
+        assert!([3, 4, 6, 7, 8].iter().all(|number| reached[number].len() >= 15));
+        assert!([16, 22].iter().all(|row| reached[&3].contains(row)));
+    }
+    let instant = &under[&1];
+    assert!([56, 57, 58].iter().all(|row| instant[&3].contains(row)));
+    assert!([18, 23, 56, 57].iter().all(|row| instant[&4].contains(row)));
+    assert!([6, 7, 8]
+        .iter()
+        .all(|number| [57, 58].iter().all(|row| instant[number].contains(row))));
+    let rows_of_first = under[&0].values().flatten();
+    assert!(rows_of_first.copied().all(|row| row <= 55));
 }
 
 #[test]
 fn every_regrouping_refusal_is_reached_and_as_expected() {
-    let mut numbers = BTreeSet::new();
-    let mut fields = BTreeSet::new();
-    for index in 0..2500 {
+    let mut under: BTreeMap<u64, [BTreeSet<u32>; 2]> = BTreeMap::new();
+    for index in 0..5000 {
         let pair = pair(SEED, index);
-        let answer = regroup(&pair.first, &pair.second, &pair.list);
+        let [numbers, fields] = under.entry(pair.profile.number()).or_default();
+        let answer = regroup(pair.profile, &pair.first, &pair.second, &pair.list);
         if let Some(expected) = pair.expected {
             assert_eq!(answer, expected, "pair {index}");
         }
-        let part = differing(&pair.first, &pair.second, &pair.list);
+        let part = differing(pair.profile, &pair.first, &pair.second, &pair.list);
         match answer {
             Regroup::Accepted => drop(numbers.insert(0)),
             Regroup::Message { whose, refusal } => {
                 let message = if whose == 1 { &pair.first } else { &pair.second };
-                let Verdict::Refused { number, .. } = verdict(message, &mut [0; 1024]) else {
-                    panic!()
-                };
+                let judged = verdict(pair.profile, message, &mut [0; 1024]);
+                let Verdict::Refused { number, .. } = judged else { panic!() };
                 assert_eq!(number, refusal.number);
                 numbers.insert(100 * whose);
             }
@@ -167,23 +212,27 @@ fn every_regrouping_refusal_is_reached_and_as_expected() {
                 numbers.insert(number);
                 fields.insert(differs);
                 if number == 20 {
-                    assert_eq!(part, field(&pair.second, k as usize, differs as usize));
+                    let (k, differs) = (k as usize, differs as usize);
+                    assert_eq!(part, field(pair.profile, &pair.second, k, differs));
                     continue;
                 }
             }
         }
         assert_eq!(part, (0, 0));
     }
-    assert_eq!(numbers, BTreeSet::from([0, 15, 16, 17, 18, 19, 20, 100, 200]));
-    assert_eq!(fields, (0..=17).collect());
+    assert_eq!(under.len(), 2);
+    for [numbers, fields] in under.values() {
+        assert_eq!(*numbers, BTreeSet::from([0, 15, 16, 17, 18, 19, 20, 100, 200]));
+        assert_eq!(*fields, (0..=17).collect());
+    }
 }
 
 #[test]
 fn a_message_regroups_itself_by_the_rising_list() {
-    for index in 0..100 {
-        let sound = sound_message(SEED + 3, index);
+    for (profile, index) in under_both(80) {
+        let sound = sound_message(profile, SEED + 3, index);
         let ordinals: Vec<u16> = (0..sound.transfers.len() as u16).collect();
-        let answer = regroup(&sound.message, &sound.message, &list(&ordinals));
+        let answer = regroup(profile, &sound.message, &sound.message, &list(&ordinals));
         assert_eq!(answer, Regroup::Accepted);
     }
 }
@@ -192,6 +241,7 @@ fn a_message_regroups_itself_by_the_rising_list() {
 fn the_same_seed_gives_the_same_cases() {
     for index in 0..50 {
         assert_eq!(case(1, index).message, case(1, index).message);
+        assert_eq!(case(1, index).profile, case(1, index).profile);
         assert_eq!(pair(1, index).list, pair(1, index).list);
     }
     assert_ne!(case(1, 0).message, case(2, 0).message);

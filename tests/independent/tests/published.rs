@@ -4,7 +4,7 @@ mod common;
 use common::*;
 use examples::*;
 use independent::values::{fault, remainder, Fault};
-use independent::regroup;
+use independent::{regroup, Profile};
 use std::collections::BTreeSet;
 
 const ACCOUNTS: [&str; 3] =
@@ -116,6 +116,15 @@ fn codes() {
 }
 
 #[test]
+fn local_instruments_and_moments() {
+    let wrong = Some(Fault::Value);
+    check(57, 56, &["INST"], None);
+    check(57, 56, &["TRF", "CTP", "ITP"], wrong);
+    check(58, 22, &["2020-12-24T11:37", "2010-12-18T08:35:30", "2021-05-31"], wrong);
+    check(58, 22, &["2010-12-18T08:35:30Z", "2010-12-18T08:35:30+01:00"], None);
+}
+
+#[test]
 fn annex_2_has_324_codes_none_twice() {
     let codes: Vec<&str> = include_str!("published/annex2.txt")
         .lines()
@@ -128,15 +137,19 @@ fn annex_2_has_324_codes_none_twice() {
 
 #[test]
 fn whole_messages_and_snippets() {
-    let all = [example_1_4(), example_6_1(), example_6_2(), accepted_snippets(), refused_snippets()];
-    for Example { name, message, wanted } in all.into_iter().flatten() {
-        assert_eq!(judge(&message), wanted, "{name}");
+    let whole = [example_1_4(), example_6_1(), example_6_2(), instant_messages()];
+    let snippets = [accepted_snippets(), refused_snippets(), snippets_in_i1()];
+    for Example { name, message, wanted } in whole.into_iter().chain(snippets).flatten() {
+        let found = Profile::BOTH.map(|profile| judge_under(profile, &message));
+        assert_eq!(found, wanted, "{name}");
     }
 }
 
 #[test]
 fn examples_and_m1_regrouped() {
     for Regrouping { name, first, second, list, wanted } in all_regroupings() {
-        assert_eq!(regroup(first.as_bytes(), second.as_bytes(), &list), wanted, "{name}");
+        let (first, second) = (first.as_bytes(), second.as_bytes());
+        let found = Profile::BOTH.map(|profile| regroup(profile, first, second, &list));
+        assert_eq!(found, wanted, "{name}");
     }
 }

@@ -94,7 +94,7 @@ fn block(ordinal: usize, transfers: &[Transfer], plenty: Plenty, random: &mut Ra
     }
     parts.extend(count_and_sum(transfers, random));
     parts.extend(same_kind.then(|| payment_type(kind, random)));
-    parts.push(Draft::nested(&["ReqdExctnDt", "Dt"], &side.date));
+    parts.push(Draft::group("ReqdExctnDt", vec![execution_date(&side.date)]));
     parts.push(Draft::nested(&["Dbtr", "Nm"], &side.debtor));
     parts.push(Draft::nested(&["DbtrAcct", "Id", "IBAN"], &side.account));
     parts.push(match &side.agent {
@@ -110,12 +110,24 @@ fn block(ordinal: usize, transfers: &[Transfer], plenty: Plenty, random: &mut Ra
     Draft::group("PmtInf", parts)
 }
 
-pub fn payment_type(kind: &Kind, random: &mut Random) -> Draft {
+pub fn execution_date(date: &Execution) -> Draft {
+    match date {
+        Execution::Day(text) => Draft::leaf("Dt", text),
+        Execution::Moment(text) => Draft::leaf("DtTm", text),
+    }
+}
+
+pub fn local_instrument() -> Draft {
+    Draft::nested(&["LclInstrm", "Cd"], "INST")
+}
+
+fn payment_type(kind: &Kind, random: &mut Random) -> Draft {
     let mut parts = Vec::new();
     if kind.high || random.percent(50) {
         parts.push(Draft::leaf("InstrPrty", if kind.high { "HIGH" } else { "NORM" }));
     }
     parts.push(Draft::nested(&["SvcLvl", "Cd"], "SEPA"));
+    parts.extend(kind.instant.then(local_instrument));
     parts.extend(kind.category.as_ref().map(|code| Draft::nested(&["CtgyPurp", "Cd"], code)));
     Draft::group("PmtTpInf", parts)
 }

@@ -1,16 +1,17 @@
 //! Damage to messages: by order, tag, value, usage, counts, bytes and size.
 
-use super::arrange::payment_type;
 use super::draft::Draft;
+use super::instant;
 use super::random::Random;
-use super::transfer::{bic, iban, iban_of_wrong_check_digits, kind, Plenty};
+use super::transfer::{bic, iban, iban_of_wrong_check_digits};
 use crate::form::{DECLARATION, ROOT_TAG};
 use crate::rows;
 use crate::LONGEST_MESSAGE;
 
 pub type Damage = fn(&mut Draft, &mut Random);
 
-pub const DAMAGES: [Damage; 6] = [order, tags, values, usage, counts, limits];
+pub const DAMAGES: [Damage; 8] =
+    [order, tags, values, usage, counts, limits, instant::instrument, instant::date];
 
 /// Names of the form and not: known, unknown, of 32 and 33 bytes, InstdAmt.
 fn any_name(random: &mut Random) -> String {
@@ -118,7 +119,7 @@ fn amount_tag(root: &mut Draft, random: &mut Random) {
     }
 }
 
-const EDGE_VALUES: [&str; 76] = [
+const EDGE_VALUES: [&str; 84] = [
     "",
     " ",
     "  ",
@@ -195,6 +196,14 @@ const EDGE_VALUES: [&str; 76] = [
     "2026-03-02T24:00:00",
     "2026-03-02T00:60:00",
     "2026-03-02t00:00:00",
+    "INST",
+    "inst",
+    "2026-03-02T23:59:59Z",
+    "2026-03-02T23:59:59z",
+    "2026-03-02T23:59:59+14:00",
+    "2026-03-02T23:59:59+14:01",
+    "2026-03-02T23:59:59-00:00",
+    "2026-03-02T23:59:59-00:60",
 ];
 
 pub fn values(root: &mut Draft, random: &mut Random) {
@@ -205,7 +214,7 @@ pub fn values(root: &mut Draft, random: &mut Random) {
         7 => leaf.text = vec![*random.pick(b"A 0_"); random.between(1, 145)],
         8 => leaf.text = any_account_or_bank(random).into_bytes(),
         _ => {
-            let longest = *random.pick(&[3, 4, 5, 10, 11, 15, 18, 19, 34, 35, 70, 140]);
+            let longest = *random.pick(&[3, 4, 5, 10, 11, 15, 18, 19, 25, 34, 35, 70, 140]);
             leaf.text = vec![*random.pick(b"A1"); longest + random.below(2)];
         }
     }
@@ -245,7 +254,8 @@ pub fn usage(root: &mut Draft, random: &mut Random) {
     if random.percent(25) {
         return same_block_id(root, random);
     }
-    let Some(block) = root.any(random, is_block) else { return };
+    let kind = root.any(random, |element| element.name == "PmtTpInf").cloned();
+    let (Some(kind), Some(block)) = (kind, root.any(random, is_block)) else { return };
     if random.percent(30) {
         block.remove("PmtTpInf");
         if let Some(payment) = block.any(random, is_payment) {
@@ -254,7 +264,7 @@ pub fn usage(root: &mut Draft, random: &mut Random) {
         return;
     }
     let added = match random.below(3) {
-        0 => payment_type(&kind(Plenty { chance: 50, longest: 9 }, random), random),
+        0 => kind,
         1 => Draft::leaf("ChrgBr", "SLEV"),
         _ => Draft::nested(&["UltmtDbtr", "Nm"], "Study 12"),
     };

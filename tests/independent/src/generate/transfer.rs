@@ -2,12 +2,28 @@
 
 use super::random::Random;
 use crate::values::{remainder, COUNTRIES};
+use crate::Profile;
+
+/// Row 23 or 58.
+#[derive(Clone, Debug, PartialEq, Eq)]
+pub enum Execution {
+    Day(String),
+    Moment(String),
+}
+
+impl Execution {
+    pub fn text(&self) -> &str {
+        match self {
+            Execution::Day(text) | Execution::Moment(text) => text,
+        }
+    }
+}
 
 /// What only a block can say of its payments.
 #[derive(Clone, Debug, PartialEq, Eq)]
 pub struct DebitSide {
     pub batch: bool,
-    pub date: String,
+    pub date: Execution,
     pub debtor: String,
     pub account: String,
     /// The BIC, or none for NOTPROVIDED.
@@ -17,6 +33,8 @@ pub struct DebitSide {
 /// What row 16 says besides the service level.
 #[derive(Clone, Debug, PartialEq, Eq)]
 pub struct Kind {
+    /// Row 56 is there.
+    pub instant: bool,
     pub high: bool,
     pub category: Option<String>,
 }
@@ -126,6 +144,25 @@ pub fn moment(random: &mut Random) -> String {
     format!("{}T{hour:02}:{minute:02}:{second:02}", day(random))
 }
 
+/// `Z`, or a sign and hh:mm up to 14:00.
+pub fn zone(random: &mut Random) -> String {
+    let minutes = match random.below(8) {
+        0 | 1 => return "Z".to_string(),
+        2 => 0,
+        3 => 14 * 60,
+        4 => 60 * random.below(15),
+        _ => random.below(14 * 60 + 1),
+    };
+    format!("{}{:02}:{:02}", *random.pick(&['+', '-']), minutes / 60, minutes % 60)
+}
+
+pub fn execution(profile: Profile, random: &mut Random) -> Execution {
+    if profile.instant && random.percent(65) {
+        return Execution::Moment(moment(random) + &zone(random));
+    }
+    Execution::Day(day(random))
+}
+
 pub fn cents(random: &mut Random) -> u64 {
     let most = *random.pick(&[1, 100, 10_000, 1_000_000, 99_999_999_999]);
     if random.percent(5) {
@@ -157,18 +194,22 @@ fn optional<T>(
     random.percent(plenty.chance).then(|| value(random))
 }
 
-pub fn debit_side(plenty: Plenty, random: &mut Random) -> DebitSide {
+pub fn debit_side(profile: Profile, plenty: Plenty, random: &mut Random) -> DebitSide {
     DebitSide {
         batch: random.percent(70),
-        date: day(random),
+        date: execution(profile, random),
         debtor: text(70, plenty, random),
         account: iban(random),
         agent: random.percent(70).then(|| bic(random)),
     }
 }
 
-pub fn kind(plenty: Plenty, random: &mut Random) -> Kind {
-    Kind { high: random.percent(30), category: optional(plenty, random, code) }
+pub fn kind(profile: Profile, plenty: Plenty, random: &mut Random) -> Kind {
+    Kind {
+        instant: profile.instant,
+        high: random.percent(30),
+        category: optional(plenty, random, code),
+    }
 }
 
 pub fn ultimate_party(plenty: Plenty, random: &mut Random) -> Option<String> {
@@ -187,10 +228,15 @@ pub fn remittance(plenty: Plenty, random: &mut Random) -> Remittance {
 
 /// Transfers that share a few debit sides, kinds and ultimate debtors, and of
 /// which some may be alike.
-pub fn transfers(count: usize, plenty: Plenty, random: &mut Random) -> Vec<Transfer> {
+pub fn transfers(
+    profile: Profile,
+    count: usize,
+    plenty: Plenty,
+    random: &mut Random,
+) -> Vec<Transfer> {
     let some = random.between(1, 4);
-    let sides: Vec<_> = (0..some).map(|_| debit_side(plenty, random)).collect();
-    let kinds: Vec<_> = (0..some).map(|_| kind(plenty, random)).collect();
+    let sides: Vec<_> = (0..some).map(|_| debit_side(profile, plenty, random)).collect();
+    let kinds: Vec<_> = (0..some).map(|_| kind(profile, plenty, random)).collect();
     let debtors: Vec<_> = (0..some).map(|_| ultimate_party(plenty, random)).collect();
     let mut transfers: Vec<Transfer> = Vec::new();
     for _ in 0..count {
@@ -245,7 +291,7 @@ impl Transfer {
             1 => self.side.batch ^= true,
             2 => self.kind.high ^= true,
             3 => self.kind.category = optional(plenty, random, code),
-            4 => self.side.date = day(random),
+            4 => self.change_date(random),
             5 => self.side.debtor = text(70, plenty, random),
             6 => self.side.account = iban(random),
             7 => self.side.agent = optional(plenty, random, bic),
@@ -260,6 +306,17 @@ impl Transfer {
             16 => self.purpose = optional(plenty, random, code),
             _ => self.change_remittance(plenty, random),
         }
+    }
+
+    /// Another date, or the same time with another zone.
+    fn change_date(&mut self, random: &mut Random) {
+        let profile = Profile { instant: self.kind.instant };
+        self.side.date = match &self.side.date {
+            Execution::Moment(text) if random.percent(50) => {
+                Execution::Moment(text[..19].to_string() + &zone(random))
+            }
+            _ => execution(profile, random),
+        };
     }
 
     fn change_remittance(&mut self, plenty: Plenty, random: &mut Random) {

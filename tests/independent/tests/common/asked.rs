@@ -5,9 +5,10 @@ use super::*;
 use independent::field;
 use std::ops::RangeInclusive;
 
-/// Asks for each of these fields of a payment.
+/// Asks for each of these fields of a payment, the message read under this profile.
 pub struct Asked {
     pub name: String,
+    pub profile: Profile,
     pub message: String,
     pub payment: usize,
     pub fields: RangeInclusive<usize>,
@@ -17,7 +18,8 @@ impl Asked {
     /// With each number, the text that is handed back.
     pub fn texts(&self) -> impl Iterator<Item = (usize, &str)> {
         self.fields.clone().map(|number| {
-            let (start, length) = field(self.message.as_bytes(), self.payment, number);
+            let (start, length) =
+                field(self.profile, self.message.as_bytes(), self.payment, number);
             (number, &self.message[start..start + length])
         })
     }
@@ -87,8 +89,18 @@ fn asked(
     fields: RangeInclusive<usize>,
     wanted: &[&Texts],
 ) -> Asked {
+    asked_under(Profile::FIRST, (name, message), payment, fields, wanted)
+}
+
+fn asked_under(
+    profile: Profile,
+    (name, message): (&str, &str),
+    payment: usize,
+    fields: RangeInclusive<usize>,
+    wanted: &[&Texts],
+) -> Asked {
     let (name, message) = (name.to_string(), message.to_string());
-    let asked = Asked { name, message, payment, fields };
+    let asked = Asked { name, profile, message, payment, fields };
     let found: Vec<(usize, &str)> = asked.texts().filter(|(_, text)| !text.is_empty()).collect();
     assert_eq!(found, wanted.concat(), "{}, payment {payment}", asked.name);
     asked
@@ -102,6 +114,9 @@ pub fn all() -> Vec<Asked> {
     all.extend([longest_texts(), last_of_64()]);
     all.extend(unknown());
     all.extend(refused_messages());
+    all.extend(instant_messages());
+    all.extend(refused_instant_messages());
+    all.extend(of_the_other_profile());
     all
 }
 
@@ -209,5 +224,75 @@ fn refused_messages() -> Vec<Asked> {
         of("no type", &with(&message, kind, ""), 10),
         of("a wrong count", &with(&message, "<NbOfTxs>1", "<NbOfTxs>2"), 12),
         of("a wrong sum", &with(&message, "12.50", "12.51"), 13),
+    ]
+}
+
+fn asked_instant(
+    name: &str,
+    message: &str,
+    payment: usize,
+    fields: RangeInclusive<usize>,
+    wanted: &[&Texts],
+) -> Asked {
+    asked_under(Profile::INSTANT, (name, message), payment, fields, wanted)
+}
+
+/// I1; every field; a block that says the day behind one that says the time; own row 16.
+fn instant_messages() -> Vec<Asked> {
+    let i1 = i1();
+    let of_i1 = |payment, own| {
+        asked_instant("I1", &i1, payment, EVERY_NUMBER, &[&[(4, MOMENT)], &BLOCK[1..], own])
+    };
+    let day = with_instrument(M1);
+    let (latest, earliest) = ("2099-12-31T23:59:59-14:00", "2000-01-01T00:00:00+14:00");
+    let but_4 = [&EVERY[..3], &EVERY[4..]].concat();
+    let every = recounted(&instant(&filled(M1, &but_4), latest));
+    let [one, other] = [">B1<", ">B2<"].map(|id| with(&block_of_first(), ">B1<", id));
+    let two = message(&[instant(&one, earliest), with_instrument(&moved(&other, "PmtTpInf"))]);
+    let of_two = |payment, date| {
+        asked_instant("two instant blocks", &two, payment, 2..=5, &[&[(4, date), BLOCK[1]]])
+    };
+    vec![
+        of_i1(0, FIRST),
+        of_i1(1, SECOND),
+        asked_instant("I1 with a day", &day, 0, EVERY_NUMBER, &[BLOCK, FIRST]),
+        asked_instant(
+            "every instant field",
+            &every,
+            0,
+            EVERY_NUMBER,
+            &[&EVERY[..3], &[(4, latest)], &EVERY[4..]],
+        ),
+        of_two(0, earliest),
+        of_two(1, "2026-03-04"),
+        asked_instant("I1", &i1, 2, 4..=4, &[]),
+    ]
+}
+
+fn refused_instant_messages() -> Vec<Asked> {
+    let of = |name, message: &str, refusal| {
+        let Verdict::Refused { number, .. } = judge_instant(message) else {
+            panic!("{name}: accepted")
+        };
+        assert_eq!(number, refusal, "{name}");
+        asked_instant(name, message, 0, 4..=4, &[])
+    };
+    let day = "<Dt>2026-03-04</Dt>";
+    vec![
+        of("both dates", &i1_with("<DtTm>", &format!("{day}<DtTm>")), 3),
+        of("no instrument", &i1_with(INSTRUMENT, ""), 4),
+        of("no date", &dated(&i1(), ""), 4),
+        of("a byte behind the zone", &i1_with(MOMENT, &format!("{MOMENT}0")), 6),
+        of("another instrument", &i1_with(">INST<", ">TRF<"), 8),
+        of("no zone", &i1_with("+01:00", ""), 8),
+    ]
+}
+
+/// M1 read under the instant profile, I1 under the first.
+fn of_the_other_profile() -> [Asked; 2] {
+    let i1 = i1();
+    [
+        asked_instant("M1 as instant", M1, 0, 4..=5, &[]),
+        asked("I1 under the first profile", &i1, 0, 4..=5, &[]),
     ]
 }

@@ -14,7 +14,7 @@ pub fn given(text: &str, field: usize, value: &str) -> String {
     match field {
         1 => after("</PmtMtd>", format!("<BtchBookg>{value}</BtchBookg>")),
         2 => before("<SvcLvl>", format!("<InstrPrty>{value}</InstrPrty>")),
-        3 => after("</SvcLvl>", format!("<CtgyPurp><Cd>{value}</Cd></CtgyPurp>")),
+        3 => before("</PmtTpInf>", format!("<CtgyPurp><Cd>{value}</Cd></CtgyPurp>")),
         4 => instead("2026-03-04"),
         5 => instead("Institute"),
         6 => instead("LU566541234567890123"),
@@ -34,6 +34,16 @@ pub fn given(text: &str, field: usize, value: &str) -> String {
         17 => remitted(text, &format!("<Ustrd>{value}</Ustrd>")),
         _ => panic!("no field {field}"),
     }
+}
+
+/// The text with this in its first ReqdExctnDt.
+pub fn dated(text: &str, content: &str) -> String {
+    let date = format!("<ReqdExctnDt>{content}</ReqdExctnDt>");
+    with(text, element(text, "ReqdExctnDt"), &date)
+}
+
+pub fn moment(text: &str) -> String {
+    format!("<DtTm>{text}</DtTm>")
 }
 
 /// The text with all these fields given.

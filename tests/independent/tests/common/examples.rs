@@ -5,19 +5,55 @@
 use super::*;
 use independent::{Refusal, Regroup};
 
+/// A message, and its verdicts under the first profile and under the instant one.
 pub struct Example {
     pub name: String,
     pub message: String,
-    pub wanted: Verdict,
+    pub wanted: [Verdict; 2],
 }
 
+impl Example {
+    /// Of a message without row 56, by its verdict under the first profile.
+    fn new(name: String, message: String, wanted: Verdict) -> Self {
+        let wanted = [wanted, without_instrument(&message, wanted)];
+        Example { name, message, wanted }
+    }
+}
+
+/// The verdict under the instant profile, where row 56 is nowhere: the first's if its form fails,
+/// or its rows before the end of row 18 that stands first; 4 on row 56 otherwise.
+fn without_instrument(message: &str, wanted: Verdict) -> Verdict {
+    let after = message.find("</SvcLvl>").map(|at| at + "</SvcLvl>".len());
+    let next = after.and_then(|at| Some(at + message[at..].find('<')?));
+    match (wanted, next) {
+        (Verdict::Refused { number: 1 | 2, .. }, _) | (_, None) => wanted,
+        (Verdict::Refused { number: 3 | 4, offset, .. }, Some(at)) if offset < at => wanted,
+        (_, Some(at)) => refused(4, 56, at),
+    }
+}
+
+/// Two messages and a list, and the answers under the first profile and under the instant one.
 #[derive(Clone)]
 pub struct Regrouping {
     pub name: String,
     pub first: String,
     pub second: String,
     pub list: Vec<u8>,
-    pub wanted: Regroup,
+    pub wanted: [Regroup; 2],
+}
+
+/// Messages without row 56: under the instant profile the first one is refused.
+fn regrouping(name: &str, [first, second]: [&str; 2], list: &[u8], wanted: Regroup) -> Regrouping {
+    let [name, first, second] = [name, first, second].map(str::to_string);
+    let instant = match without_instrument(&first, accepted(1, 2, 0)) {
+        Verdict::Refused { number, element, offset } => of_message(1, (number, element, offset)),
+        Verdict::Accepted { .. } => panic!("{name}: no row 16"),
+    };
+    Regrouping { name, first, second, list: list.to_vec(), wanted: [wanted, instant] }
+}
+
+fn of_message(whose: u32, (number, element, offset): (u32, u32, usize)) -> Regroup {
+    Regroup::Message { whose, refusal: Refusal { number, element, offset } }
 }
 
 /// What is repaired, how, and the verdict after it.
@@ -26,12 +62,11 @@ type Step<'s> = (&'s str, &'s dyn Fn(&str) -> String, Verdict);
 /// The message as printed, and after one repair after the other.
 fn repaired(name: &str, message: &str, printed: Verdict, steps: &[Step]) -> Vec<Example> {
     let mut text = message.to_string();
-    let first = Example { name: format!("{name} as printed"), message: text.clone(), wanted: printed };
-    let mut examples = vec![first];
+    let mut examples = vec![Example::new(format!("{name} as printed"), text.clone(), printed)];
     for (number, (what, repair, wanted)) in (1..).zip(steps) {
         text = repair(&text);
         let name = format!("{name} step {number}, {what}");
-        examples.push(Example { name, message: text.clone(), wanted: *wanted });
+        examples.push(Example::new(name, text.clone(), *wanted));
     }
     examples
 }
@@ -109,22 +144,14 @@ pub fn example_6_1() -> Vec<Example> {
                 &|t| with(t, "<NbOfTx>3</NbOfTx>", "<NbOfTxs>3</NbOfTxs>"),
                 refused(3, 8, 310),
             ),
-            (
-                "no InitgPty/Id",
-                &|t| without_lines(t, "    <Id>", "\n</Id>"),
-                refused(3, 10, 444),
-            ),
+            ("no InitgPty/Id", &|t| without_lines(t, "    <Id>", "\n</Id>"), refused(3, 10, 444)),
             (
                 "NbOfTxes right (2979)",
                 &|t| with(t, "<NbOfTxes>2</NbOfTxes>", "<NbOfTxs>2</NbOfTxs>"),
                 refused(3, 38, 1017),
             ),
             ("no UETR", &|t| without_line(t, "<UETR>"), refused(3, 44, 1208)),
-            (
-                "no PstlAdr",
-                &|t| without_lines(t, "<PstlAdr>", "</PstlAdr>"),
-                refused(3, 38, 1451),
-            ),
+            ("no PstlAdr", &|t| without_lines(t, "<PstlAdr>", "</PstlAdr>"), refused(3, 38, 1451)),
             ("no second UETR", &|t| without_line(t, "<UETR>"), refused(3, 10, 2000)),
             ("no second block", &|t| with(t, second_block(t), ""), refused(12, 6, 219)),
             ("count 2", &|t| with(t, "<NbOfTxs>3", "<NbOfTxs>2"), refused(13, 7, 244)),
@@ -172,17 +199,9 @@ pub fn example_6_2() -> Vec<Example> {
                 refused(3, 3, 219),
             ),
             ("both NbOfTxes right", &|t| t.replace("NbOfTxes", "NbOfTxs"), refused(3, 8, 318)),
-            (
-                "no Id",
-                &|t| without_lines(t, "      <Id>", "\n      </Id>"),
-                refused(3, 38, 939),
-            ),
+            ("no Id", &|t| without_lines(t, "      <Id>", "\n      </Id>"), refused(3, 38, 939)),
             ("no UETR", &|t| without_line(t, "<UETR>"), refused(3, 44, 1130)),
-            (
-                "no PstlAdr",
-                &|t| without_lines(t, "<PstlAdr>", "</PstlAdr>"),
-                refused(3, 38, 1353),
-            ),
+            ("no PstlAdr", &|t| without_lines(t, "<PstlAdr>", "</PstlAdr>"), refused(3, 38, 1353)),
             ("no second UETR", &|t| without_line(t, "<UETR>"), accepted(1, 2, 193_525)),
         ],
     )
@@ -193,7 +212,7 @@ fn last(examples: Vec<Example>) -> String {
 }
 
 pub fn all_regroupings() -> Vec<Regrouping> {
-    [regroupings(), regroupings_of_m1()].concat()
+    [regroupings(), regroupings_of_m1(), regroupings_of_i1()].concat()
 }
 
 /// The repaired 6.1 regrouped to the repaired 6.2.
@@ -201,12 +220,9 @@ fn regroupings() -> Vec<Regrouping> {
     let (first, second) = (last(example_6_1()), last(example_6_2()));
     let booked = with(&first, "<BtchBookg>false", "<BtchBookg>true");
     let differs = |field| Regroup::Refused { number: 20, k: 0, field };
-    let regrouping = |name: &str, first: &str, ordinals: &[u16], wanted| Regrouping {
-        name: format!("001-6.1 to 001-6.2{name}"),
-        first: first.to_string(),
-        second: second.clone(),
-        list: list(ordinals),
-        wanted,
+    let regrouping = |name: &str, first: &str, ordinals: &[u16], wanted| {
+        let name = format!("001-6.1 to 001-6.2{name}");
+        regrouping(&name, [first, &second], &list(ordinals), wanted)
     };
     vec![
         regrouping(" by 0, 1", &first, &[0, 1], differs(1)),
@@ -223,16 +239,9 @@ fn regroupings_of_m1() -> Vec<Regrouping> {
     let fewer = with(&fewer, "35.1", "12.5");
     let longer = [list(&[0, 1]), vec![0]].concat();
     let refused = |number, k, field| Regroup::Refused { number, k, field };
-    let message = |whose| Regroup::Message {
-        whose,
-        refusal: Refusal { number: 12, element: 6, offset: 147 },
-    };
-    let regrouping = |name: &str, first: &str, second: &str, list: &[u8], wanted| Regrouping {
-        name: name.to_string(),
-        first: first.to_string(),
-        second: second.to_string(),
-        list: list.to_vec(),
-        wanted,
+    let message = |whose| of_message(whose, (12, 6, 147));
+    let regrouping = |name: &str, first: &str, second: &str, list: &[u8], wanted| {
+        regrouping(name, [first, second], list, wanted)
     };
     vec![
         regrouping("M1 to M2 by 1, 0", M1, &m2, &list(&[1, 0]), Regroup::Accepted),
@@ -269,8 +278,102 @@ fn in_block(name: &str, snippet: &str) -> String {
 
 fn snippet(lines: &str, message: String, wanted: Verdict) -> Example {
     let document = if lines.contains(':') { "" } else { "001:" };
-    Example { name: format!("{document}{lines} in M1"), message, wanted }
+    Example::new(format!("{document}{lines} in M1"), message, wanted)
 }
+
+/// I1 and its neighbours: where row 56 and row 58 are right and where they are not.
+pub fn instant_messages() -> Vec<Example> {
+    let sound = accepted(1, 2, 3510);
+    let (instrument, day, moment) = (16, "<Dt>2026-03-04</Dt>", element_of_i1("DtTm"));
+    let example = |name: &str, message: String, first: (u32, &str), instant| {
+        let (row, at) = first;
+        let first = refused(3, row, message.find(at).expect("the place"));
+        let instant = match instant {
+            None => sound,
+            Some((number, row, at)) => refused(number, row, message.find(at).expect("the place")),
+        };
+        Example { name: name.to_string(), message, wanted: [first, instant] }
+    };
+    let i1_but = |name: &str, old: &str, new: &str, instant| {
+        example(name, i1_with(old, new), (instrument, "<LclInstrm>"), instant)
+    };
+    let both = format!("{day}{moment}");
+    let behind = format!("<CtgyPurp><Cd>SALA</Cd></CtgyPurp>{INSTRUMENT}");
+    vec![
+        Example::new("M1".to_string(), M1.to_string(), sound),
+        example("I1", i1(), (instrument, "<LclInstrm>"), None),
+        i1_but("I1 with Z", "+01:00", "Z", None),
+        i1_but("I1 with a day", &moment, day, None),
+        example(
+            "I1 without instrument",
+            i1_with(INSTRUMENT, ""),
+            (22, "<DtTm>"),
+            Some((4, 56, "</PmtTpInf>")),
+        ),
+        i1_but("I1 with its instrument behind", INSTRUMENT, &behind, Some((4, 56, "<CtgyPurp>"))),
+        i1_but("I1 with the code TRF (002:330)", ">INST<", ">TRF<", Some((8, 57, "<Cd>TRF"))),
+        i1_but(
+            "I1 with a code of 36 bytes",
+            ">INST<",
+            &format!(">{:X<36}<", "INST"),
+            Some((6, 57, "<Cd>INSTX")),
+        ),
+        i1_but("I1 with both dates", &moment, &both, Some((3, 22, "<DtTm>"))),
+        i1_but("I1 without date", &moment, "", Some((4, 23, "</ReqdExctnDt>"))),
+        i1_but("I1 without zone", "+01:00", "", Some((8, 58, "<DtTm>"))),
+        i1_but("I1 with +14:01", "+01:00", "+14:01", Some((8, 58, "<DtTm>"))),
+        i1_but("I1 with a byte behind the zone", "+01:00", "+01:000", Some((6, 58, "<DtTm>"))),
+    ]
+}
+
+fn element_of_i1(name: &str) -> String {
+    element(&i1(), name).to_string()
+}
+
+/// I1 regrouped to itself with its payments exchanged and with other dates; I1 and M1.
+fn regroupings_of_i1() -> Vec<Regrouping> {
+    let (i1, i2, day) = (i1(), instant(&m2(), MOMENT), with_instrument(M1));
+    let [utc, zero] = ["Z", "+00:00"].map(|zone| i1_with("+01:00", zone));
+    let instrument = |whose| of_message(whose, (3, 16, i1.find("<LclInstrm>").expect("row 56")));
+    let missing = |whose| of_message(whose, (4, 56, M1.find("</PmtTpInf>").expect("row 16")));
+    let differs = |field| Regroup::Refused { number: 20, k: 0, field };
+    let regrouping = |name: &str, first: &str, second: &str, ordinals: &[u16], wanted| {
+        let [name, first, second] = [name, first, second].map(str::to_string);
+        Regrouping { name, first, second, list: list(ordinals), wanted }
+    };
+    vec![
+        regrouping("I1 to I2 by 1, 0", &i1, &i2, &[1, 0], [instrument(1), Regroup::Accepted]),
+        regrouping("I1 to I2 by 0, 1", &i1, &i2, &[0, 1], [instrument(1), differs(10)]),
+        regrouping(
+            "I1 with Z to I1 with +00:00",
+            &utc,
+            &zero,
+            &[0, 1],
+            [instrument(1), differs(4)],
+        ),
+        regrouping("I1 with a day to I1", &day, &i1, &[0, 1], [instrument(1), differs(4)]),
+        regrouping("M1 to I1", M1, &i1, &[0, 1], [instrument(2), missing(1)]),
+        regrouping("I1 to M1", &i1, M1, &[0, 1], [instrument(1), missing(2)]),
+    ]
+}
+
+/// What the guides print for rows 16 and 22, in I1: accepted under the instant profile.
+pub fn snippets_in_i1() -> Vec<Example> {
+    let purpose = "<CtgyPurp><Cd>SALA</Cd></CtgyPurp>";
+    [
+        ("001:1712", i1_with("</PmtTpInf>", &format!("{purpose}</PmtTpInf>"))),
+        ("001:1749-1751", i1_with(&element_of_i1("ReqdExctnDt"), DATE)),
+    ]
+    .into_iter()
+    .map(|(lines, message)| {
+        let first = refused(3, 16, message.find("<LclInstrm>").expect("row 56"));
+        Example { name: format!("{lines} in I1"), message, wanted: [first, accepted(1, 2, 3510)] }
+    })
+    .collect()
+}
+
+/// 001:1749-1751.
+const DATE: &str = " <ReqdExctnDt>\n <Dt>2021-05-31</Dt>\n </ReqdExctnDt>";
 
 pub fn accepted_snippets() -> Vec<Example> {
     let agent = "<DbtrAgt>\n\n\n    <FinInstnId>\n      <BICFI>AAAALULLXXX</BICFI>\n    </FinInstnId>\n  </DbtrAgt>";
@@ -283,10 +386,7 @@ pub fn accepted_snippets() -> Vec<Example> {
         ("1605", before("<SvcLvl>", "<InstrPrty>NORM</InstrPrty>")),
         ("1658", instead_of("Cd", "<Cd>SEPA</Cd>")),
         ("1712", before("</PmtTpInf>", "<CtgyPurp><Cd>SALA</Cd></CtgyPurp>")),
-        (
-            "1749-1751",
-            instead_of("ReqdExctnDt", " <ReqdExctnDt>\n <Dt>2021-05-31</Dt>\n </ReqdExctnDt>"),
-        ),
+        ("1749-1751", instead_of("ReqdExctnDt", DATE)),
         (
             "1867-1871",
             instead_of(

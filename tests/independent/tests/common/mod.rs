@@ -7,7 +7,7 @@ pub mod examples;
 pub mod pairs;
 pub mod written;
 
-use independent::{verdict, Verdict};
+use independent::{verdict, Profile, Verdict};
 
 pub const ROOT: &str = r#"<Document xmlns="urn:iso:std:iso:20022:tech:xsd:pain.001.001.09">"#;
 
@@ -69,6 +69,32 @@ pub fn m3() -> String {
     m1(block, &format!("{b1}\n{b2}"))
 }
 
+/// Row 56.
+pub const INSTRUMENT: &str = "<LclInstrm><Cd>INST</Cd></LclInstrm>";
+
+/// Row 58 of I1.
+pub const MOMENT: &str = "2026-03-04T09:30:00+01:00";
+
+/// A message of the first profile with row 56 in each row 16, and so one of the instant profile.
+pub fn with_instrument(text: &str) -> String {
+    text.replace("</SvcLvl>", &format!("</SvcLvl>{INSTRUMENT}"))
+}
+
+/// M1, or a piece or a neighbour of it, with row 56 and this row 58 for its day.
+pub fn instant(text: &str, moment: &str) -> String {
+    with_instrument(text).replace("<Dt>2026-03-04</Dt>", &format!("<DtTm>{moment}</DtTm>"))
+}
+
+/// The instant neighbour of M1.
+pub fn i1() -> String {
+    instant(M1, MOMENT)
+}
+
+/// I1 with one piece made another.
+pub fn i1_with(old: &str, new: &str) -> String {
+    with(&i1(), old, new)
+}
+
 pub fn refused(number: u32, element: u32, offset: usize) -> Verdict {
     Verdict::Refused { number, element, offset }
 }
@@ -77,8 +103,17 @@ pub fn accepted(blocks: u32, payments: u32, cents: u64) -> Verdict {
     Verdict::Accepted { blocks, payments, cents }
 }
 
+/// The verdict under the first profile.
 pub fn judge(message: impl AsRef<[u8]>) -> Verdict {
-    verdict(message.as_ref(), &mut [0; 1024])
+    judge_under(Profile::FIRST, message)
+}
+
+pub fn judge_instant(message: impl AsRef<[u8]>) -> Verdict {
+    judge_under(Profile::INSTANT, message)
+}
+
+pub fn judge_under(profile: Profile, message: impl AsRef<[u8]>) -> Verdict {
+    verdict(profile, message.as_ref(), &mut [0; 1024])
 }
 
 pub fn list(ordinals: &[u16]) -> Vec<u8> {

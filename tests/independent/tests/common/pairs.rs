@@ -7,6 +7,7 @@ use independent::{differing, regroup};
 
 pub struct Pair {
     pub name: String,
+    pub profile: Profile,
     pub first: String,
     pub second: String,
     pub list: Vec<u8>,
@@ -22,25 +23,38 @@ impl Pair {
     pub fn answers(&self) -> [(&str, String); 2] {
         self.ways().map(|(first, second)| {
             let (one, two) = (first.as_bytes(), second.as_bytes());
-            let (start, length) = differing(one, two, &self.list);
-            (&second[start..start + length], regroup(one, two, &self.list).to_string())
+            let (start, length) = differing(self.profile, one, two, &self.list);
+            let answer = regroup(self.profile, one, two, &self.list);
+            (&second[start..start + length], answer.to_string())
         })
     }
 }
 
 pub fn all() -> Vec<Pair> {
-    [of_blocks(), of_payments(), of_m1(), refused_otherwise()].into_iter().flatten().collect()
+    let first = [of_blocks(), of_payments(), of_m1(), refused_otherwise()];
+    let instant = [of_instant_blocks(), of_i1(), of_both_profiles()];
+    first.into_iter().chain(instant).flatten().collect()
 }
 
 /// A pair that must get these texts and answers.
 fn pair(
+    name: impl Into<String>,
+    messages: [&str; 2],
+    list: &[u8],
+    wanted: [(&str, &str); 2],
+) -> Pair {
+    pair_under(Profile::FIRST, name, messages, list, wanted)
+}
+
+fn pair_under(
+    profile: Profile,
     name: impl Into<String>,
     [first, second]: [&str; 2],
     list: &[u8],
     wanted: [(&str, &str); 2],
 ) -> Pair {
     let (name, first, second) = (name.into(), first.to_string(), second.to_string());
-    let pair = Pair { name, first, second, list: list.to_vec() };
+    let pair = Pair { name, profile, first, second, list: list.to_vec() };
     let wanted = wanted.map(|(text, answer)| (text, answer.to_string()));
     assert_eq!(pair.answers(), wanted, "{}", pair.name);
     pair
@@ -49,6 +63,7 @@ fn pair(
 /// Two messages that have a piece of M1 in common, whose payment is 0 in the first and 1 in
 /// the second; by the list 1, 0 the second regroups the first.
 struct Place {
+    profile: Profile,
     messages: [String; 2],
     piece: String,
 }
@@ -59,12 +74,20 @@ fn a_block() -> Place {
     let first = element(&m3, "PmtInf");
     let after = m3.find(first).expect("the block") + first.len();
     let second = exchanged(&m3, first, element(&m3[after..], "PmtInf"));
-    Place { piece: first.to_string(), messages: [m3.clone(), second] }
+    Place { profile: Profile::FIRST, piece: first.to_string(), messages: [m3.clone(), second] }
+}
+
+/// The instant neighbours of these.
+fn an_instant_block() -> Place {
+    let Place { messages, piece, .. } = a_block();
+    let messages = messages.map(|message| instant(&message, MOMENT));
+    Place { profile: Profile::INSTANT, messages, piece: instant(&piece, MOMENT) }
 }
 
 /// M1 and M2: the payment E1.
 fn a_payment() -> Place {
-    Place { piece: payments_of_m1()[0].to_string(), messages: [M1.to_string(), m2()] }
+    let (profile, messages) = (Profile::FIRST, [M1.to_string(), m2()]);
+    Place { profile, piece: payments_of_m1()[0].to_string(), messages }
 }
 
 type Edit<'e> = &'e dyn Fn(&str) -> String;
@@ -74,6 +97,10 @@ fn as_it_is(piece: &str) -> String {
 }
 
 impl Place {
+    fn named(&self, name: &str) -> String {
+        format!("{}{name}", if self.profile.instant { "instant, " } else { "" })
+    }
+
     /// The messages with the piece edited in each.
     fn edited(&self, edits: [Edit; 2]) -> [String; 2] {
         [0, 1].map(|side| {
@@ -86,12 +113,14 @@ impl Place {
         let [first, second] = &self.edited(edits);
         let [there, back] = [1, 0].map(|k| format!("REFUSED 20 k={k} field={field}"));
         let wanted = [(texts[1], there.as_str()), (texts[0], back.as_str())];
-        pair(format!("{name}, field {field}"), [first, second], &list(&[1, 0]), wanted)
+        let name = self.named(&format!("{name}, field {field}"));
+        pair_under(self.profile, name, [first, second], &list(&[1, 0]), wanted)
     }
 
     fn equal(&self, name: &str, edits: [Edit; 2]) -> Pair {
         let [first, second] = &self.edited(edits);
-        pair(format!("{name}, equal"), [first, second], &list(&[1, 0]), [("", "ACCEPTED"); 2])
+        let name = self.named(&format!("{name}, equal"));
+        pair_under(self.profile, name, [first, second], &list(&[1, 0]), [("", "ACCEPTED"); 2])
     }
 
     /// Two texts of a field, or one alone.
@@ -261,4 +290,70 @@ fn refused_otherwise() -> Vec<Pair> {
         pair("a wrong count", [&wrong, &one], &list(&[0]), [("", &first), ("", &second)]),
         pair("both refused", ["", &wrong], &list(&[0]), [("", no_bytes), ("", &first)]),
     ]
+}
+
+/// The fields that row 16 and row 22 give, under the instant profile.
+fn of_instant_blocks() -> Vec<Pair> {
+    let place = an_instant_block();
+    let dates = |one: &'static str, other: &'static str| {
+        let edit = |text: &'static str| {
+            move |block: &str| match text.len() {
+                10 => dated(block, &format!("<Dt>{text}</Dt>")),
+                _ => dated(block, &moment(text)),
+            }
+        };
+        let edits: [Edit; 2] = [&edit(one), &edit(other)];
+        place.differing(&format!("{one} and {other}"), 4, edits, [one, other])
+    };
+    let day: Edit = &|b| dated(b, "<Dt>2026-03-04</Dt>");
+    vec![
+        dates("2026-03-04T09:30:00Z", "2026-03-04T09:30:00+00:00"),
+        dates("2026-03-04T09:30:00+00:00", "2026-03-04T09:30:00-00:00"),
+        dates("2026-03-04T09:30:00+01:00", "2026-03-04T08:30:00+00:00"),
+        dates("2026-03-04", "2026-03-05"),
+        dates("2026-03-04", "2026-03-04T00:00:00Z"),
+        place.texts(3, [Some("SALA"), Some("PENS")]),
+        place.equal("the same day", [day, day]),
+        place.equal("own type", [&as_it_is, &|b| moved(b, "PmtTpInf")]),
+    ]
+}
+
+/// I1 with the instant neighbours of M2 and M3, and with itself.
+fn of_i1() -> Vec<Pair> {
+    let both = |text, answer| [(text, answer); 2];
+    let (i1, i2, i3) = (i1(), instant(&m2(), MOMENT), instant(&m3(), MOMENT));
+    let pair = |name, second: &str, list: &[u8], wanted| {
+        pair_under(Profile::INSTANT, name, [&i1, second], list, wanted)
+    };
+    let end_to_end = "REFUSED 20 k=0 field=10";
+    let ultimate_debtor = "REFUSED 20 k=1 field=8";
+    vec![
+        pair("I1 and I2 by 1, 0", &i2, &list(&[1, 0]), both("", "ACCEPTED")),
+        pair("I1 and I2 by 0, 1", &i2, &list(&[0, 1]), [("E2", end_to_end), ("E1", end_to_end)]),
+        pair(
+            "I1 and I3 by 0, 1",
+            &i3,
+            &list(&[0, 1]),
+            [("", ultimate_debtor), ("Study 12", ultimate_debtor)],
+        ),
+        pair("I1 by 0, 0", &i1, &list(&[0, 0]), both("", "REFUSED 19 k=1 field=0")),
+    ]
+}
+
+/// M1 and I1, of which each profile refuses one.
+fn of_both_profiles() -> Vec<Pair> {
+    let i1 = i1();
+    let instrument = format!("REFUSED 3 element=16 offset={}", i1.find("<LclInstrm>").unwrap());
+    let missing = format!("REFUSED 4 element=56 offset={}", M1.find("</PmtTpInf>").unwrap());
+    [
+        (Profile::FIRST, "SECOND", "FIRST", instrument),
+        (Profile::INSTANT, "FIRST", "SECOND", missing),
+    ]
+    .map(|(profile, there, back, refusal)| {
+        let name = if profile.instant { "M1 and I1 as instant" } else { "M1 and I1" };
+        let wanted = [there, back].map(|whose| format!("{whose} {refusal}"));
+        let wanted = [("", wanted[0].as_str()), ("", wanted[1].as_str())];
+        pair_under(profile, name, [M1, &i1], &list(&[0, 1]), wanted)
+    })
+    .into()
 }

@@ -18,8 +18,9 @@ fn part(bytes: &[u8]) -> Vec<u8> {
 }
 
 /// The cases of the crate `run_fields`, and what its program must print. A case is `F` with
-/// name, payment, first and last field and message, which has a line for each field; or `D`
-/// with name, first, second and list, which has a line for each of the two ways.
+/// name, profile (0 the first, 1 the instant one), payment, first and last field and message,
+/// which has a line for each field; or `D` with name, profile, first, second and list, which
+/// has a line for each of the two ways.
 pub fn run_fields() -> (Vec<u8>, String) {
     let (asked, pairs) = (asked::all(), pairs::all());
     let all = asked.iter().map(of_asked).chain(pairs.iter().map(of_pair));
@@ -30,18 +31,20 @@ pub fn run_fields() -> (Vec<u8>, String) {
 }
 
 fn of_asked(asked: &Asked) -> (Vec<u8>, String) {
-    let Asked { name, message, payment, fields } = asked;
+    let Asked { name, profile, message, payment, fields } = asked;
     let numbers = [payment, fields.start(), fields.end()].map(usize::to_string);
-    let [of, first, last] = &numbers;
-    let parts = [name, of, first, last, message].map(|part| part.as_bytes());
+    let ([of, first, last], profile) = (&numbers, &profile.number().to_string());
+    let parts = [name, profile, of, first, last, message].map(|part| part.as_bytes());
     let line =
         |(number, text)| format!("{name}, payment {payment}, field {number}: {}\n", quoted(text));
     (case("F", &parts), asked.texts().map(line).collect())
 }
 
 fn of_pair(pair: &Pair) -> (Vec<u8>, String) {
-    let Pair { name, first, second, list } = pair;
-    let parts = [name.as_bytes(), first.as_bytes(), second.as_bytes(), list];
+    let Pair { name, profile, first, second, list } = pair;
+    let profile = profile.number().to_string();
+    let [first, second] = [first, second].map(|message| message.as_bytes());
+    let parts = [name.as_bytes(), profile.as_bytes(), first, second, list];
     let lines = ["", ", back"].iter().zip(pair.answers());
     let line = |(way, (text, answer))| format!("{name}{way}: {} {answer}\n", quoted(text));
     (case("D", &parts), lines.map(line).collect())
