@@ -11,7 +11,7 @@ use lib.Dec.{eqb}
 use borrow.Author.Tests.{eqb-true, eqb-false, ne-eqb}
 use Rattle.paper.specs.Bytes.{bytes, is, one-of, white, same}
 use Rattle.paper.specs.Form.{Element, IsMessage, root-tag, end-tag, declaration}
-use Rattle.paper.specs.Rows.{leaf, group, group-under, rows}
+use Rattle.paper.specs.Rows.{leaf, group, group-under, rows, instant-changes, every-row}
 use Rattle.paper.specs.Computed.Reading.{opening, opened, before, after, want, blank, in-root, step, ended, run, read, root-is}
 use Rattle.form.specs.Promise.{FormPromise}
 use Rattle.form_names.specs.Names.{number-in, name-number}
@@ -119,7 +119,7 @@ root-begins s p w = go (decLe (length s) p)
     go (no l) = let h : p < length s = omega arith in at-byte h (eqb (getD s p 0) 60) refl
 
 root-number : 1 ≡ name-number (bytes "Document")
-unfolding name-number number-in rows group same bytes leaf group-under
+unfolding name-number number-in rows instant-changes every-row group same bytes leaf group-under
 root-number = refl
 
 -- the root's start tag, and what follows it

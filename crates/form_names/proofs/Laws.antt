@@ -10,7 +10,7 @@ use lib.Seq.{drop-cons}
 use lib.Dec.{eqb, leb}
 use borrow.Author.Tests.{lt-ltb, le-ltb, eqb-true, eqb-false, eq-eqb, ne-eqb, leb-true, le-leb}
 use Rattle.paper.specs.Bytes.{if_then_else_, bytes, same}
-use Rattle.paper.specs.Rows.{Row, leaf, group, group-under, rows, name-in, name}
+use Rattle.paper.specs.Rows.{Row, leaf, group, group-under, rows, instant-changes, every-row, name-in, name}
 use Rattle.paper.proofs.Laws.{both-left, both-right, same-says, same-tests}
 use Rattle.form_names.specs.Names.{number-in, name-number, is-row, slot-of, length-in, number-of, name-of, NamesAre}
 
@@ -76,13 +76,14 @@ numbered-in (r ∷ rs) t w = go (same (r .name) w) refl (numbered-in rs (both-ri
         of-row (both-left (is-row (r .row)) _ n′) (sym (same-says (r .name) w e) ∙ sym (same-says (name (r .row)) (r .name) (both-right (is-row (r .row)) _ n′)))
     go false e ih = ih
 
-rows-right : each-row named-right rows ≡ true
-unfolding each-row named-right is-row name rows group same name-in bytes leaf group-under
+-- each row of both profiles has the name that its number has
+pub rows-right : each-row named-right every-row ≡ true
+unfolding each-row named-right is-row name rows instant-changes every-row group same name-in bytes leaf group-under
 rows-right = refl
 
 pub numbered : (w : List ℕ) → Numbered w (name-number w)
 unfolding name-number
-numbered w = numbered-in rows rows-right w
+numbered w = numbered-in every-row rows-right w
 
 -- The name of a row has a number that is a row's.
 numbered-row : (w : List ℕ) (n : ℕ) → Numbered w n → (n ≡ 0 → ⊥) → w ≡ name n
@@ -103,24 +104,24 @@ each-says p (suc n) from t k l h = go (eqb from k) refl (λ l′ h′. each-says
     go true e ih = ap p (sym (eqb-true from k e)) ∙ both-left (p from) (each-number p n (suc from)) t
     go false e ih = let d = eqb-false from k e in ih (omega (arith, d, l)) (omega (arith, h))
 
-pub row-between : (k : ℕ) → is-row k ≡ true → (1 ≤ k) × (k < 56)
+pub row-between : (k : ℕ) → is-row k ≡ true → (1 ≤ k) × (k < 59)
 unfolding is-row
-row-between k r = let h = leb-true k 55 (both-right (leb 1 k) (leb k 55) r) in (leb-true 1 k (both-left (leb 1 k) (leb k 55) r), omega (arith, h))
+row-between k r = let h = leb-true k 58 (both-right (leb 1 k) (leb k 58) r) in (leb-true 1 k (both-left (leb 1 k) (leb k 58) r), omega (arith, h))
 
-pub row-says : (p : ℕ → Bool) → each-number p 55 1 ≡ true → (k : ℕ) → is-row k ≡ true → p k ≡ true
-row-says p t k r = let h = row-between k r in each-says p 55 1 t k (h .0) (omega (arith, h .1))
+pub row-says : (p : ℕ → Bool) → each-number p 58 1 ≡ true → (k : ℕ) → is-row k ≡ true → p k ≡ true
+row-says p t k r = let h = row-between k r in each-says p 58 1 t k (h .0) (omega (arith, h .1))
 
--- every name's number is below 56
-pub number-below : (w : List ℕ) → name-number w < 56
+-- every name's number is below 59
+pub number-below : (w : List ℕ) → name-number w < 59
 number-below w = go (name-number w) (numbered w)
   where
-    go : (m : ℕ) → Numbered w m → m < 56
+    go : (m : ℕ) → Numbered w m → m < 59
     go zero of-no-row = omega arith
     go m (of-row r e) = row-between m r .1
 
 -- the number of a row's name is not 0, and that row has the same name
-numbers-there : each-number (λ k. leb 1 (name-number (name k))) 55 1 ≡ true
-unfolding each-number name-number number-in name rows group same name-in bytes leaf group-under
+numbers-there : each-number (λ k. leb 1 (name-number (name k))) 58 1 ≡ true
+unfolding each-number name-number number-in name rows instant-changes every-row group same name-in bytes leaf group-under
 numbers-there = refl
 
 pub number-there : (k : ℕ) → is-row k ≡ true → 1 ≤ name-number (name k)
@@ -156,7 +157,7 @@ unfoldable pub row-there : List ℕ → ℕ → Bool
 row-there table k = eqb (length-in table (slot-of (name k))) (length (name k)) && same (name-of table (slot-of (name k))) (name k)
 
 unfoldable pub table-right : List ℕ → Bool
-table-right table = leb 2304 (length table) && (each-number (slot-right table) 128 0 && each-number (row-there table) 55 1)
+table-right table = leb 2304 (length table) && (each-number (slot-right table) 128 0 && each-number (row-there table) 58 1)
 
 pub names-are : (table : List ℕ) → table-right table ≡ true → NamesAre table
 unfolding table-right row-there slot-right
@@ -165,7 +166,7 @@ names-are table t =
     record {
       long = leb-true 2304 (length table) (both-left (leb 2304 (length table)) _ t);
       right = λ j h l.
-          let e = each-says (slot-right table) 128 0 (both-left _ (each-number (row-there table) 55 1) rest) j (omega arith) (omega (arith, h)) in
+          let e = each-says (slot-right table) 128 0 (both-left _ (each-number (row-there table) 58 1) rest) j (omega arith) (omega (arith, h)) in
           let e′ : (if leb 1 (length-in table j) then eqb (name-number (name-of table j)) (number-of table j) else true) ≡ true = e in
           eqb-true _ _ (decided (leb 1 (length-in table j)) _ true (le-leb 1 (length-in table j) l) e′);
       full = λ k r.
@@ -186,8 +187,8 @@ module _ {table : List ℕ} (n : NamesAre table) (w : List ℕ) where
           absurd (h (ap (λ z. length-in table (slot-of z)) e ∙ (f .0 ∙ ap length (sym e))) (ap (λ z. name-of table (slot-of z)) e ∙ (f .1 ∙ sym e)))
 
 -- no row's name is longer than sixteen bytes, and none is empty
-names-fit : each-number (λ k. leb 1 (length (name k)) && leb (length (name k)) 16) 55 1 ≡ true
-unfolding each-number name rows group name-in bytes leaf group-under
+names-fit : each-number (λ k. leb 1 (length (name k)) && leb (length (name k)) 16) 58 1 ≡ true
+unfolding each-number name rows instant-changes every-row group name-in bytes leaf group-under
 names-fit = refl
 
 pub not-so-long : (w : List ℕ) → (1 ≤ length w → length w ≤ 16 → ⊥) → 0 ≡ name-number w

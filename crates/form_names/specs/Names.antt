@@ -1,23 +1,27 @@
 -- A name's number: that of the lowest row that has it; 0 for every other name.
 use Prim.Native.Nat.{ℕ, _+_, _*_, _-_, _%_, _≤_, _<_}
 use mathlib.Core.List.{List, [], _∷_}
-use mathlib.Core.Bool.{Bool, true, _&&_}
+use mathlib.Core.Bool.{Bool, true, _&&_, not}
 use mathlib.Core.Path.{_≡_}
 use lib.ListN.{length, getD, take, drop}
-use lib.Dec.{leb, ltb}
+use lib.Dec.{eqb, leb, ltb}
 use Rattle.paper.specs.Bytes.{if_then_else_, same}
-use Rattle.paper.specs.Rows.{Row, rows, name}
+use Rattle.paper.specs.Rows.{Row, every-row, name}
 
 unfoldable pub number-in : List Row → List ℕ → ℕ
 number-in [] w = 0
 number-in (r ∷ rs) w = if same (r .name) w then r .row else number-in rs w
 
 unfoldable pub name-number : List ℕ → ℕ
-name-number w = number-in rows w
+name-number w = number-in every-row w
 
 -- The number is a row's.
 unfoldable pub is-row : ℕ → Bool
-is-row k = leb 1 k && leb k 55
+is-row k = leb 1 k && leb k 58
+
+-- The number is that of a row which is looked for by its number. Row 57 is not: it is found by its place alone, as the one row of its group.
+unfoldable pub is-sought : ℕ → Bool
+is-sought k = leb 1 k && leb k 58 && not (eqb k 57)
 
 -- The slot of a name, by its length, its first byte and its sixth, or its last where it has no sixth.
 unfoldable pub slot-of : List ℕ → ℕ

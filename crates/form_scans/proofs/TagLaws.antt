@@ -12,7 +12,7 @@ use borrow.Author.Tests.{eqb-true}
 use Rattle.paper.specs.Bytes.{bytes, is, capital, letter-or-digit, same}
 use Rattle.paper.specs.Form.{Element, amount-tag}
 use Rattle.paper.specs.Computed.Reading.{State, want, naming, capitals, blank, behind-name, in-amount, step, ended, stops-at}
-use Rattle.paper.specs.Rows.{leaf, group, group-under, rows, name-in, name}
+use Rattle.paper.specs.Rows.{leaf, group, group-under, rows, instant-changes, every-row, name-in, name}
 use Rattle.form_names.specs.Names.{number-in, name-number, is-row}
 use Rattle.form_names.proofs.Laws.{same-number}
 use Rattle.form_scans.specs.Scans.{from, Word, Letters, Capitals, CapitalAt, end-of, Tag, Opened, opens-currency, stops}
@@ -163,11 +163,11 @@ module _ (s name : List ℕ) (depth lt room at : ℕ) (h : at < length s) where
 
 -- The name of an amount is known by its number.
 amount-number : 42 ≡ name-number (bytes "InstdAmt")
-unfolding name-number number-in rows group same bytes leaf group-under
+unfolding name-number number-in rows instant-changes every-row group same bytes leaf group-under
 amount-number = refl
 
 amount-name : name 42 ≡ bytes "InstdAmt"
-unfolding name name-in rows group bytes leaf group-under
+unfolding name name-in rows instant-changes every-row group bytes leaf group-under
 amount-name = refl
 
 pub of-amount : (w : List ℕ) {n : ℕ} → n ≡ name-number w → same w (bytes "InstdAmt") ≡ eqb n 42

@@ -8,11 +8,12 @@ use borrow.Author.Tests.{lt-ltb, eqb-false}
 use lib.ListN.{length, getD, set, take, drop, length-append, length-set}
 use lib.Seq.{length-take-le, take-at, take-suc, drop-append-add, drop-drop}
 use Rattle.paper.specs.Bytes.{each}
-use Rattle.paper.specs.Rows.{rows}
+use Rattle.paper.specs.Rows.{Profile}
 use Rattle.paper.specs.Payments.{payments}
 use Rattle.paper.specs.Refusals.{MessageAnswer, Outcome, refused-as, accepted-with, accepted, refused, answer-to, refuse, table-refusal, unless-refused, outcome, verdict}
 use Rattle.paper.specs.Table.{over, numbers-of, written, table-after}
-use Rattle.paper.specs.Host.{four-bytes, numbers-held, bytes-after}
+use Rattle.paper.specs.Regrouping.{RegroupingAnswer, regrouping}
+use Rattle.paper.specs.Host.{profile-numbered, four-bytes, numbers-held, bytes-after}
 use Rattle.paper.specs.Answers.{refusal-of, numbered, verdict-says}
 use Rattle.paper.specs.declared.Fault.{Fault}
 use Rattle.paper.specs.declared.Fault.the-variants.{TableTooShort}
@@ -22,6 +23,7 @@ use Rattle.paper.proofs.Laws.{each-more, each-length}
 use Rattle.verdict_answers.specs.Numbers.{as-answer}
 use Rattle.verdict_answers.specs.declared.OfMessage.{OfMessage}
 use Rattle.verdict_table.proofs.Filling.{all-numbers-length}
+use Rattle.paper_acceptance.proofs.Proper.{numbered-proper}
 use Rattle.verdict_reader.specs.Promises.{VerdictPromise}
 use Rattle.verdict_reader.proofs.Verdicts.{long-enough}
 use Rattle.verdict_reader.proofs.Agreement.{Filled, accepted-fills}
@@ -91,27 +93,28 @@ held-long : (table : List ℕ) → 4096 ≤ length table → 1024 ≤ numbers-he
 unfolding numbers-held
 held-long table h = omega (arith, h)
 
-told : (s before after : List ℕ) (v : Verdict) {r : OfMessage} → as-answer r ≡ verdict-says v → verdict-says v ≡ answer-to (outcome rows (numbers-held before) s)
-    → after ≡ bytes-after (outcome rows (numbers-held before) s) before → HostVerdictPromise s before r after
+told : {profile : ℕ} (s before after : List ℕ) (v : Verdict) {r : OfMessage} → as-answer r ≡ verdict-says v → verdict-says v ≡ answer-to (outcome (profile-numbered profile) (numbers-held before) s)
+    → after ≡ bytes-after (outcome (profile-numbered profile) (numbers-held before) s) before → HostVerdictPromise profile s before r after
 unfolding verdict
 told s before after v e a t = record { answer-is = e ∙ a; table-is = t }
 
-pub too-short : (s before : List ℕ) {r : OfMessage} → length before < 4096 → as-answer r ≡ verdict-says (Refused TableTooShort) → HostVerdictPromise s before r before
+pub too-short : (profile : ℕ) (s before : List ℕ) {r : OfMessage} → length before < 4096 → as-answer r ≡ verdict-says (Refused TableTooShort) → HostVerdictPromise profile s before r before
 unfolding outcome table-refusal refuse unless-refused answer-to verdict-says refusal-of numbered bytes-after over written each numbers-held
-too-short s before h e =
+too-short profile s before h e =
     let l : length before / 4 < 1024 = omega (arith, h) in
-    told s before before (Refused TableTooShort) e (rw (lt-ltb (length before / 4) 1024 l)) (rw (lt-ltb (length before / 4) 1024 l))
+    told {profile = profile} s before before (Refused TableTooShort) e (rw (lt-ltb (length before / 4) 1024 l)) (rw (lt-ltb (length before / 4) 1024 l))
 
 -- what the reader answered with a table of its own that has room for 1,024 numbers
-module _ (s before : List ℕ) {own filled : List ℕ} {v : Verdict} (h : 4096 ≤ length before) (long : length own ≡ 1024) (a : VerdictPromise s own v filled) where
-  as-own : outcome rows (numbers-held before) s ≡ outcome rows (length own) s
-  as-own = long-enough s (numbers-held before) (held-long before h) ∙ sym (long-enough s (length own) (omega (arith, long)))
+module _ (profile : ℕ) (s before : List ℕ) {own filled : List ℕ} {v : Verdict} (h : 4096 ≤ length before) (long : length own ≡ 1024)
+    (a : VerdictPromise (profile-numbered profile) s own v filled) where
+  as-own : outcome (profile-numbered profile) (numbers-held before) s ≡ outcome (profile-numbered profile) (length own) s
+  as-own = long-enough (profile-numbered profile) s (numbers-held before) (held-long before h) ∙ sym (long-enough (profile-numbered profile) s (length own) (omega (arith, long)))
 
-  pub refused-bytes : {f : Fault} {r : OfMessage} → v ≡ Refused f → as-answer r ≡ verdict-says (Refused f) → HostVerdictPromise s before r before
+  pub refused-bytes : {f : Fault} {r : OfMessage} → v ≡ Refused f → as-answer r ≡ verdict-says (Refused f) → HostVerdictPromise profile s before r before
   unfolding verdict answer-to verdict-says refused accepted bytes-after over written each
-  refused-bytes {f} {r} e q = go (outcome rows (numbers-held before) s) refl
+  refused-bytes {f} {r} e q = go (outcome (profile-numbered profile) (numbers-held before) s) refl
     where
-      go : (o : Outcome) → outcome rows (numbers-held before) s ≡ o → HostVerdictPromise s before r before
+      go : (o : Outcome) → outcome (profile-numbered profile) (numbers-held before) s ≡ o → HostVerdictPromise profile s before r before
       go (refused-as x) p = told s before before (Refused f) q (sym (ap verdict-says e) ∙ a .answer-is ∙ ap answer-to (sym as-own)) (rw p)
       go (accepted-with root) p =
           let t : refused (refusal-of f) ≡ answer-to (accepted-with root) = sym (ap verdict-says e) ∙ a .answer-is ∙ ap answer-to (sym as-own ∙ p) in
@@ -119,8 +122,8 @@ module _ (s before : List ℕ) {own filled : List ℕ} {v : Verdict} (h : 4096 �
 
   -- where it accepted, its table starts with all the payments' numbers
   module _ {b p c : ℕ} (e : v ≡ Accepted b p c) where
-    numbered-by : Filled s own filled b p c
-    numbered-by = accepted-fills (subst (λ (w : Verdict). VerdictPromise s own w filled) e a)
+    numbered-by : Filled (profile-numbered profile) s own filled b p c
+    numbered-by = accepted-fills (numbered-proper profile) (subst (λ (w : Verdict). VerdictPromise (profile-numbered profile) s own w filled) e a)
 
     pub room : length filled ≡ 1024 → 16 * p ≤ 1024
     unfolding over table-after written
@@ -130,7 +133,7 @@ module _ (s before : List ℕ) {own filled : List ℕ} {v : Verdict} (h : 4096 �
         omega (arith, l, ap length (n .table-is), length-append ns (drop (length ns) own), all-numbers-length (payments (n .root)), n .payments-are)
 
     pub accepted-bytes : {r : OfMessage} {after : List ℕ} → length filled ≡ 1024 → as-answer r ≡ verdict-says (Accepted b p c)
-        → (16 * p ≤ length filled → 4 * (16 * p) ≤ length before → after ≡ each four-bytes (take (16 * p) filled) ++ drop (4 * (16 * p)) before) → HostVerdictPromise s before r after
+        → (16 * p ≤ length filled → 4 * (16 * p) ≤ length before → after ≡ each four-bytes (take (16 * p) filled) ++ drop (4 * (16 * p)) before) → HostVerdictPromise profile s before r after
     unfolding verdict bytes-after table-after over written
     accepted-bytes {r} {after} l q w =
         let n = numbered-by in
@@ -139,6 +142,15 @@ module _ (s before : List ℕ) {own filled : List ℕ} {v : Verdict} (h : 4096 �
         let many : length ns ≡ 16 * p = all-numbers-length (payments (n .root)) ∙ ap (λ (m : ℕ). 16 * m) (sym (n .payments-are)) in
         let x : take (16 * p) filled ≡ ns = ap (take (16 * p)) (n .table-is) ∙ take-at ns (drop (length ns) own) (16 * p) many in
         let y : 4 * (16 * p) ≡ length (each four-bytes ns) = ap (λ (m : ℕ). 4 * m) (sym many) ∙ sym (four-length ns) in
-        let o : outcome rows (numbers-held before) s ≡ accepted-with (n .root) = as-own ∙ n .outcome-is in
+        let o : outcome (profile-numbered profile) (numbers-held before) s ≡ accepted-with (n .root) = as-own ∙ n .outcome-is in
         told s before after (Accepted b p c) q (sym (ap verdict-says e) ∙ a .answer-is ∙ ap answer-to (sym as-own))
         (w (omega (arith, few, l)) (omega (arith, few, h)) ∙ rw (o, x) (ap (λ (m : ℕ). each four-bytes ns ++ drop m before) y))
+
+-- what is promised in a profile is promised in the one that its number names
+pub in-profile : (profile : ℕ) {named : Profile} {s own filled : List ℕ} {v : Verdict} → named ≡ profile-numbered profile → VerdictPromise named s own v filled
+    → VerdictPromise (profile-numbered profile) s own v filled
+in-profile profile {s = s} {own} {filled} {v} e a = subst (λ (p : Profile). VerdictPromise p s own v filled) e a
+
+pub regrouped-in-profile : (profile : ℕ) {named : Profile} (first second list : List ℕ) {a : RegroupingAnswer} → named ≡ profile-numbered profile
+    → a ≡ regrouping named first second list → a ≡ regrouping (profile-numbered profile) first second list
+regrouped-in-profile profile first second list e r = r ∙ ap (λ (p : Profile). regrouping p first second list) e

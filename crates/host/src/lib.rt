@@ -1,5 +1,6 @@
 // The two functions that the payment host calls, over lent bytes; include/glowenzo.h says them to C.
 use paper::Fault;
+use paper::Profile;
 use paper::Verdict;
 use verdict_answers::OfMessage;
 use verdict_answers::OfRegrouping;
@@ -8,11 +9,21 @@ ghost use mathlib.Core.List.{_++_};
 ghost use Prim.Native.Nat.{_+_, _*_, _≤_};
 ghost use lib.ListN.{length, take, drop};
 ghost use Rattle.paper.specs.Bytes.{each};
-ghost use Rattle.paper.specs.Host.{four-bytes};
+ghost use Rattle.paper.specs.Host.{profile-numbered, four-bytes};
+ghost use Rattle.paper.specs.Answers.{profile-named};
 ghost use Rattle.host.specs.Promises.{HostVerdictPromise, HostRegroupPromise};
 
 // The bytes of the least table.
 const LEAST_BYTES: usize = 4 * paper::LEAST_TABLE;
+
+// The profile that a number names: 1 is the instant one, any other the first.
+fn profile_of(number: u64) -> Profile
+    ensures { λ r. ⌜ profile-named r ≡ profile-numbered number ⌝ }
+{
+    Profile {
+        instant: number == 1,
+    }
+}
 
 // A number as four bytes at a place of the table, where it has them.
 fn put(table: &mut [u8], at: usize, n: u32)
@@ -45,16 +56,16 @@ fn write(numbers: &[u32], many: usize, table: &mut [u8])
     }
 }
 
-// The verdict on a message, with the table as bytes.
+// The verdict on a message, in the profile that a number names, with the table as bytes.
 #[no_mangle]
-pub extern "C" fn glowenzo_verdict(message: &[u8], table: &mut [u8]) -> OfMessage
-    ensures { λ r. ⌜ HostVerdictPromise (now (message .entry)) (now (table .entry)) r (now (table .exit)) ⌝ }
+pub extern "C" fn glowenzo_verdict(profile: u64, message: &[u8], table: &mut [u8]) -> OfMessage
+    ensures { λ r. ⌜ HostVerdictPromise profile (now (message .entry)) (now (table .entry)) r (now (table .exit)) ⌝ }
 {
     if table.len() < LEAST_BYTES {
         return verdict_answers::of_message(Verdict::Refused(Fault::TableTooShort));
     }
     let mut numbers = [0u32; paper::LEAST_TABLE];
-    let found = verdict_reader::verdict(message, &mut numbers);
+    let found = verdict_reader::verdict(profile_of(profile), message, &mut numbers);
     match found {
         Verdict::Refused(fault) => verdict_answers::of_message(Verdict::Refused(fault)),
         Verdict::Accepted {
@@ -72,10 +83,16 @@ pub extern "C" fn glowenzo_verdict(message: &[u8], table: &mut [u8]) -> OfMessag
     }
 }
 
-// Whether one message regroups another by a list.
+// Whether one message regroups another by a list, both in the profile that a number names.
 #[no_mangle]
-pub extern "C" fn glowenzo_regroup(first: &[u8], second: &[u8], list: &[u8]) -> OfRegrouping
-    ensures { λ r. ⌜ HostRegroupPromise (now (first .entry)) (now (second .entry)) (now (list .entry)) r ⌝ }
+pub extern "C" fn glowenzo_regroup(
+    profile: u64,
+    first: &[u8],
+    second: &[u8],
+    list: &[u8],
+) -> OfRegrouping
+    ensures { λ r. ⌜ HostRegroupPromise profile (now (first .entry)) (now (second .entry)) (now (list .entry)) r ⌝ }
 {
-    verdict_answers::of_regrouping(move_regrouping::regroup(first, second, list))
+    let found = move_regrouping::regroup(profile_of(profile), first, second, list);
+    verdict_answers::of_regrouping(found)
 }

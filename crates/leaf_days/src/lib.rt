@@ -1,7 +1,7 @@
 // Days and times. A text is a part of the message.
 ghost use mathlib.Core.Path.{_≡_};
-ghost use Prim.Native.Nat.{_<_};
-ghost use Rattle.paper.specs.Values.{days-in, true-day, date, date-and-time};
+ghost use mathlib.Core.Bool.{_||_};
+ghost use Rattle.paper.specs.Values.{days-in, true-day, date, date-and-time, shaped, zone, date-time-zone};
 
 fn days_in(year: u64, month: u64) -> u64
     ensures { λ r. ⌜ r ≡ days-in year month ⌝ }
@@ -60,4 +60,45 @@ pub fn date_and_time(s: &[u8]) -> bool
         return false;
     }
     leaf_numbers::number(&s[17..19]) <= 59
+}
+
+// A sign and `hh:mm`.
+fn signed(s: &[u8]) -> bool
+    ensures { λ r. ⌜ r ≡ (shaped "+00:00" (now (s .entry)) || shaped "-00:00" (now (s .entry))) ⌝ }
+{
+    if leaf_texts::shaped(b"+00:00", s) {
+        return true;
+    }
+    leaf_texts::shaped(b"-00:00", s)
+}
+
+// `Z`, or a sign and `hh:mm` from 00:00 to 14:00.
+fn zone(s: &[u8]) -> bool
+    ensures { λ r. ⌜ r ≡ zone (now (s .entry)) ⌝ }
+{
+    if leaf_texts::same(s, b"Z") {
+        return true;
+    }
+    if !signed(s) {
+        return false;
+    }
+    let hours = leaf_numbers::number(&s[1..3]);
+    let minutes = leaf_numbers::number(&s[4..6]);
+    if 59 < minutes {
+        return false;
+    }
+    hours * 60 + minutes <= 14 * 60
+}
+
+// Row 58: a date and time as in row 5, then its zone: `Z`, or a sign and `hh:mm` from 00:00 to 14:00.
+pub fn date_time_zone(s: &[u8]) -> bool
+    ensures { λ r. ⌜ r ≡ date-time-zone (now (s .entry)) ⌝ }
+{
+    if s.len() < 19 {
+        return false;
+    }
+    if !date_and_time(&s[0..19]) {
+        return false;
+    }
+    zone(&s[19..])
 }

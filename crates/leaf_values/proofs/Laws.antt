@@ -21,11 +21,11 @@ all-first (every-more e h) = rw (e, all-first h)
 
 -- a row that has no rule of its own
 pub free :
-    (parent row : ℕ) (currency w : List ℕ) → (row ≡ 4 → ⊥) → (row ≡ 11 → ⊥) → (row ≡ 39 → ⊥) → (row ≡ 40 → ⊥) → (row ≡ 12 → ⊥) → (row ≡ 13 → ⊥) → (row ≡ 17 → ⊥) → (row ≡ 19 → ⊥) → (row ≡ 33 → ⊥) → (row ≡ 36 → ⊥) → (row ≡ 21 → ⊥) → (row ≡ 23 → ⊥) → (row ≡ 5 → ⊥) → (row ≡ 6 → ⊥) → (row ≡ 14 → ⊥) → (row ≡ 7 → ⊥) → (row ≡ 15 → ⊥) → (row ≡ 42 → ⊥) → (row ≡ 31 → ⊥) → (row ≡ 28 → ⊥) →
+    (parent row : ℕ) (currency w : List ℕ) → (row ≡ 4 → ⊥) → (row ≡ 11 → ⊥) → (row ≡ 39 → ⊥) → (row ≡ 40 → ⊥) → (row ≡ 12 → ⊥) → (row ≡ 13 → ⊥) → (row ≡ 17 → ⊥) → (row ≡ 19 → ⊥) → (row ≡ 33 → ⊥) → (row ≡ 36 → ⊥) → (row ≡ 21 → ⊥) → (row ≡ 23 → ⊥) → (row ≡ 5 → ⊥) → (row ≡ 57 → ⊥) → (row ≡ 58 → ⊥) → (row ≡ 6 → ⊥) → (row ≡ 14 → ⊥) → (row ≡ 7 → ⊥) → (row ≡ 15 → ⊥) → (row ≡ 42 → ⊥) → (row ≡ 31 → ⊥) → (row ≡ 28 → ⊥) →
     right-for parent row currency w ≡ among row (9 ∷ 25 ∷ 35 ∷ 49 ∷ 54 ∷ 55 ∷ [])
 unfolding right-for among
-free parent row currency w n4 n11 n39 n40 n12 n13 n17 n19 n33 n36 n21 n23 n5 n6 n14 n7 n15 n42 n31 n28 =
-    rw (ne-eqb row 4 n4, ne-eqb row 11 n11, ne-eqb row 39 n39, ne-eqb row 40 n40, ne-eqb row 12 n12, ne-eqb row 13 n13, ne-eqb row 17 n17, ne-eqb row 19 n19, ne-eqb row 33 n33, ne-eqb row 36 n36, ne-eqb row 21 n21, ne-eqb row 23 n23, ne-eqb row 5 n5, ne-eqb row 6 n6, ne-eqb row 14 n14, ne-eqb row 7 n7, ne-eqb row 15 n15, ne-eqb row 42 n42, ne-eqb row 31 n31, ne-eqb row 28 n28)
+free parent row currency w n4 n11 n39 n40 n12 n13 n17 n19 n33 n36 n21 n23 n5 n57 n58 n6 n14 n7 n15 n42 n31 n28 =
+    rw (ne-eqb row 4 n4, ne-eqb row 11 n11, ne-eqb row 39 n39, ne-eqb row 40 n40, ne-eqb row 12 n12, ne-eqb row 13 n13, ne-eqb row 17 n17, ne-eqb row 19 n19, ne-eqb row 33 n33, ne-eqb row 36 n36, ne-eqb row 21 n21, ne-eqb row 23 n23, ne-eqb row 5 n5, ne-eqb row 57 n57, ne-eqb row 58 n58, ne-eqb row 6 n6, ne-eqb row 14 n14, ne-eqb row 7 n7, ne-eqb row 15 n15, ne-eqb row 42 n42, ne-eqb row 31 n31, ne-eqb row 28 n28)
 
 module _ (parent row longest : ℕ) (currency w : List ℕ) where
   pub empty-judges : length w < 1 → Judges parent row longest currency w EmptyOrTooLong

@@ -75,6 +75,8 @@ fn right_for(parent: usize, row: usize, currency: &[u8], s: &[u8]) -> bool
         21 => leaf_identifiers::purpose(s),
         23 => leaf_days::date(s),
         5 => leaf_days::date_and_time(s),
+        57 => leaf_texts::same(s, b"INST"),
+        58 => leaf_days::date_time_zone(s),
         6 | 14 => leaf_numbers::count(s),
         7 | 15 => leaf_money::money(s),
         42 => amount_in(currency, s),

@@ -9,7 +9,7 @@ use borrow.Author.Tests.{eq-eqb, ne-eqb}
 use lib.ListN.{length, length-map}
 use lib.Dec.{eqb}
 use Rattle.paper.specs.Form.{Element}
-use Rattle.paper.specs.Rows.{rows}
+use Rattle.paper.specs.Rows.{Profile}
 use Rattle.paper.specs.Payments.{payments, in-payment}
 use Rattle.paper.specs.Refusals.{accepted-with, outcome-alone}
 use Rattle.paper.specs.Fields.{values-of, field-part}
@@ -44,32 +44,32 @@ in-order q =
       amounts = all-map (λ p r. r .amount) (q .readable .in-payments);
     }
 
-pub when-accepted : {A : Type 0} {s tree order : List ℕ} {v : Verdict} {b p c : ℕ} → Decided s tree order v → v ≡ Accepted b p c
-    → ((root : Element) → outcome-alone rows s ≡ accepted-with root → InOrder s tree order p root → A) → A
+pub when-accepted : {A : Type 0} {profile : Profile} {s tree order : List ℕ} {v : Verdict} {b p c : ℕ} → Decided profile s tree order v → v ≡ Accepted b p c
+    → ((root : Element) → outcome-alone profile s ≡ accepted-with root → InOrder s tree order p root → A) → A
 when-accepted (decided-refused o) e use-it = let z : _≡_ {A = ℕ} 0 1 = cc in absurd (omega (arith, z))
 when-accepted {s = s} {tree} {order} {p = p} (decided-accepted {root = root} {p = y} l o t q) e use-it =
     let g : y ≡ p = cc in use-it root o (subst (λ (n : ℕ). InOrder s tree order n root) g (in-order q))
 
 -- the second message, given the first's outcome; and the first
-pub second-refused : (root : Element) (list : List ℕ) {second tree order : List ℕ} {v : Verdict} {f : Fault} → Decided second tree order v → v ≡ Refused f
-    → regrouping-says (regroup.SecondRefused f) ≡ of-outcomes (accepted-with root) (outcome-alone rows second) list
+pub second-refused : {profile : Profile} (root : Element) (list : List ℕ) {second tree order : List ℕ} {v : Verdict} {f : Fault} → Decided profile second tree order v → v ≡ Refused f
+    → regrouping-says (regroup.SecondRefused f) ≡ of-outcomes (accepted-with root) (outcome-alone profile second) list
 unfolding regrouping-says of-outcomes
 second-refused root list d e = rw (refused-has d e)
 
-pub second-accepted : (root : Element) (list : List ℕ) {second tree order : List ℕ} {v : Verdict} {b p c : ℕ} (r : Regrouping) → Decided second tree order v → v ≡ Accepted b p c
+pub second-accepted : {profile : Profile} (root : Element) (list : List ℕ) {second tree order : List ℕ} {v : Verdict} {b p c : ℕ} (r : Regrouping) → Decided profile second tree order v → v ≡ Accepted b p c
     → ((root2 : Element) → InOrder second tree order p root2 → regrouping-says r ≡ of-payments (all-values root) (all-values root2) list)
-    → regrouping-says r ≡ of-outcomes (accepted-with root) (outcome-alone rows second) list
+    → regrouping-says r ≡ of-outcomes (accepted-with root) (outcome-alone profile second) list
 unfolding of-outcomes
 second-accepted root list r d e h = when-accepted d e (λ root2 o i. rw o (h root2 i))
 
-pub first-refused : (second list : List ℕ) {first tree order : List ℕ} {v : Verdict} {f : Fault} → Decided first tree order v → v ≡ Refused f
-    → regrouping-says (regroup.FirstRefused f) ≡ regrouping rows first second list
+pub first-refused : {profile : Profile} (second list : List ℕ) {first tree order : List ℕ} {v : Verdict} {f : Fault} → Decided profile first tree order v → v ≡ Refused f
+    → regrouping-says (regroup.FirstRefused f) ≡ regrouping profile first second list
 unfolding regrouping-says of-outcomes regrouping
 first-refused second list d e = rw (refused-has d e)
 
-pub first-accepted : (second list : List ℕ) {first tree order : List ℕ} {v : Verdict} {b p c : ℕ} (r : Regrouping) → Decided first tree order v → v ≡ Accepted b p c
-    → ((root1 : Element) → InOrder first tree order p root1 → regrouping-says r ≡ of-outcomes (accepted-with root1) (outcome-alone rows second) list)
-    → regrouping-says r ≡ regrouping rows first second list
+pub first-accepted : {profile : Profile} (second list : List ℕ) {first tree order : List ℕ} {v : Verdict} {b p c : ℕ} (r : Regrouping) → Decided profile first tree order v → v ≡ Accepted b p c
+    → ((root1 : Element) → InOrder first tree order p root1 → regrouping-says r ≡ of-outcomes (accepted-with root1) (outcome-alone profile second) list)
+    → regrouping-says r ≡ regrouping profile first second list
 unfolding regrouping
 first-accepted second list r d e h = when-accepted d e (λ root1 o i. rw o (h root1 i))
 
@@ -139,16 +139,16 @@ NotTwenty (regroup.NamedBefore k) = Unit {0}
 NotTwenty (regroup.FieldsDiffer k f) = ⊥
 
 -- the differing part, by the answer
-module _ (first second list : List ℕ) {r : Regrouping} (is : RegroupPromise first second list r) where
-  pub part-of-20 : {k field : ℕ} → r ≡ regroup.FieldsDiffer k field → differing-part rows first second list ≡ field-part (outcome-alone rows second) k field
+module _ (profile : Profile) (first second list : List ℕ) {r : Regrouping} (is : RegroupPromise profile first second list r) where
+  pub part-of-20 : {k field : ℕ} → r ≡ regroup.FieldsDiffer k field → differing-part profile first second list ≡ field-part (outcome-alone profile second) k field
   unfolding differing-part part-for regrouping-says answered
   part-of-20 e = rw (sym is ∙ ap regrouping-says e)
 
-  pub no-part : {answer : Regrouping} → r ≡ answer → NotTwenty answer → differing-part rows first second list ≡ part-of none
+  pub no-part : {answer : Regrouping} → r ≡ answer → NotTwenty answer → differing-part profile first second list ≡ part-of none
   unfolding differing-part part-for regrouping-says answered message-refused NotTwenty
   no-part {answer} e n = go answer e n
     where
-      go : (a : Regrouping) → r ≡ a → NotTwenty a → differing-part rows first second list ≡ part-of none
+      go : (a : Regrouping) → r ≡ a → NotTwenty a → differing-part profile first second list ≡ part-of none
       go regroup.Accepted e n = rw (sym is ∙ ap regrouping-says e)
       go (regroup.FirstRefused f) e n = rw (sym is ∙ ap regrouping-says e)
       go (regroup.SecondRefused f) e n = rw (sym is ∙ ap regrouping-says e)

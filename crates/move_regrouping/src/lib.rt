@@ -1,16 +1,16 @@
 // Whether one message regroups another by a list, for any two messages and any list.
 use move_lists::Listed;
 use move_pairs::Paired;
+use paper::Profile;
 use paper::Regrouping;
 use paper::Verdict;
 use rule_limits::Order;
 use tree::Tree;
 ghost use mathlib.Core.Path.{_≡_};
 ghost use Rattle.paper.specs.Form.{Element};
-ghost use Rattle.paper.specs.Rows.{rows};
 ghost use Rattle.paper.specs.Refusals.{accepted-with, outcome-alone};
 ghost use Rattle.paper.specs.Regrouping.{of-payments, all-values, of-outcomes};
-ghost use Rattle.paper.specs.Answers.{regrouping-says};
+ghost use Rattle.paper.specs.Answers.{profile-named, regrouping-says};
 ghost use Rattle.move_pairs.specs.Pairs.{InOrder, pairs-say};
 ghost use Rattle.move_regrouping.specs.Promises.{RegroupPromise, DifferingPromise};
 
@@ -59,6 +59,7 @@ fn listed(
 
 // The second message's refusal, and what follows.
 fn with_second(
+    profile: Profile,
     first: &[u8],
     tree1: &Tree,
     order1: &Order,
@@ -67,11 +68,11 @@ fn with_second(
     list: &[u8],
 ) -> Regrouping
     ensures { λ r. ⌜ ((root1 : Element) → InOrder (now (first .entry)) (now (tree1 .entry)) (now (order1 .entry)) many1 root1
-        → regrouping-says r ≡ of-outcomes (accepted-with root1) (outcome-alone rows (now (second .entry))) (now (list .entry))) ⌝ }
+        → regrouping-says r ≡ of-outcomes (accepted-with root1) (outcome-alone (profile-named profile) (now (second .entry))) (now (list .entry))) ⌝ }
 {
     let mut tree2 = [0u16; tree::NUMBERS];
     let mut order2 = [0u16; rule_limits::NUMBERS];
-    let found = verdict_stages::outcome(second, &mut tree2, &mut order2);
+    let found = verdict_stages::outcome(profile, second, &mut tree2, &mut order2);
     match found {
         Verdict::Refused(fault) => Regrouping::SecondRefused(fault),
         Verdict::Accepted {
@@ -94,30 +95,30 @@ fn with_second(
     }
 }
 
-// The answer to a regrouping: the first message's refusal, the second's, 15, 16, 17, and for each k 18, 19, 20.
-pub fn regroup(first: &[u8], second: &[u8], list: &[u8]) -> Regrouping
-    ensures { λ r. ⌜ RegroupPromise (now (first .entry)) (now (second .entry)) (now (list .entry)) r ⌝ }
+// The answer to a regrouping, both messages read in one profile: the first message's refusal, the second's, 15, 16, 17, and for each k 18, 19, 20.
+pub fn regroup(profile: Profile, first: &[u8], second: &[u8], list: &[u8]) -> Regrouping
+    ensures { λ r. ⌜ RegroupPromise (profile-named profile) (now (first .entry)) (now (second .entry)) (now (list .entry)) r ⌝ }
 {
     let mut tree1 = [0u16; tree::NUMBERS];
     let mut order1 = [0u16; rule_limits::NUMBERS];
-    let found = verdict_stages::outcome(first, &mut tree1, &mut order1);
+    let found = verdict_stages::outcome(profile, first, &mut tree1, &mut order1);
     match found {
         Verdict::Refused(fault) => Regrouping::FirstRefused(fault),
         Verdict::Accepted {
             blocks: _,
             payments,
             cents: _,
-        } => with_second(first, &tree1, &order1, payments, second, list),
+        } => with_second(profile, first, &tree1, &order1, payments, second, list),
     }
 }
 
 // For 20 the text of the differing field as the second message has it, a part of the second message; otherwise the empty part at 0 of the second.
-pub fn differing<'a>(first: &[u8], second: &'a [u8], list: &[u8]) -> &'a [u8]
-    ensures { λ r. ⌜ DifferingPromise (now (first .entry)) (second .entry) (now (list .entry)) r ⌝ }
+pub fn differing<'a>(profile: Profile, first: &[u8], second: &'a [u8], list: &[u8]) -> &'a [u8]
+    ensures { λ r. ⌜ DifferingPromise (profile-named profile) (now (first .entry)) (second .entry) (now (list .entry)) r ⌝ }
 {
-    let answer = regroup(first, second, list);
+    let answer = regroup(profile, first, second, list);
     match answer {
-        Regrouping::FieldsDiffer { k, field } => verdict_reader::field(second, k, field),
+        Regrouping::FieldsDiffer { k, field } => verdict_reader::field(profile, second, k, field),
         Regrouping::Accepted => &second[0..0],
         Regrouping::FirstRefused(_) => &second[0..0],
         Regrouping::SecondRefused(_) => &second[0..0],

@@ -1,19 +1,24 @@
-// Runs the verdict and the regrouping over what the source documents print, and over M1 to M3, and writes a line for each example. In the four files a case is `V`
-// with name and message, or `R` with name, first, second and list, and a line feed.
+// Runs the verdict and the regrouping over what the source documents print, and over M1 to M3 and messages of the instant scheme, and writes two lines for each example: what
+// the first profile gives, and the instant one. In the four files a case is `V` with name and message, or `R` with name, first, second and list, and a line feed.
+use paper::Profile;
 ghost use Prim.Native.Nat.{_<_};
 ghost use lib.ListN.{length};
 
 // The verdict of the message at an offset. Answers the offset of the next case.
-fn verdict_at(s: &[u8], at: usize, table: &mut [u32]) -> usize {
+fn verdict_at(profile: Profile, s: &[u8], at: usize, table: &mut [u32]) -> usize {
     let message = run_frames::part_at(s, at);
     let a = message.start;
     let b = message.end;
-    run_printing::message(verdict_answers::of_message(verdict_reader::verdict(&s[a..b], table)));
+    run_printing::message(verdict_answers::of_message(verdict_reader::verdict(
+        profile,
+        &s[a..b],
+        table,
+    )));
     b + 2
 }
 
 // The regrouping of the parts at an offset. Answers the offset of the next case.
-fn regrouping_at(s: &[u8], at: usize) -> usize {
+fn regrouping_at(profile: Profile, s: &[u8], at: usize) -> usize {
     let first = run_frames::part_at(s, at);
     let a = first.start;
     let b = first.end;
@@ -24,6 +29,7 @@ fn regrouping_at(s: &[u8], at: usize) -> usize {
     let e = list.start;
     let f = list.end;
     run_printing::regrouping(verdict_answers::of_regrouping(move_regrouping::regroup(
+        profile,
         &s[a..b],
         &s[c..d],
         &s[e..f],
@@ -31,8 +37,8 @@ fn regrouping_at(s: &[u8], at: usize) -> usize {
     f + 2
 }
 
-// The case at an offset. Answers the offset of the next.
-fn case_at(s: &[u8], at: usize, table: &mut [u32]) -> usize
+// The answer to the case at an offset, after its name and some more words. Answers the offset of the next case.
+fn answer_at(profile: Profile, words: &[u8], s: &[u8], at: usize, table: &mut [u32]) -> usize
     requires { ⌜ at < length (now s) ⌝ }
 {
     let kind = s[at];
@@ -40,11 +46,19 @@ fn case_at(s: &[u8], at: usize, table: &mut [u32]) -> usize
     let a = name.start;
     let b = name.end;
     run_printing::text(&s[a..b]);
-    run_printing::text(b": ");
+    run_printing::text(words);
     if kind == b'R' {
-        return regrouping_at(s, b + 1);
+        return regrouping_at(profile, s, b + 1);
     }
-    verdict_at(s, b + 1, table)
+    verdict_at(profile, s, b + 1, table)
+}
+
+// The case at an offset, in both profiles. Answers the offset of the next.
+fn case_at(s: &[u8], at: usize, table: &mut [u32]) -> usize
+    requires { ⌜ at < length (now s) ⌝ }
+{
+    answer_at(Profile { instant: false }, b": ", s, at, table);
+    answer_at(Profile { instant: true }, b", instant: ", s, at, table)
 }
 
 fn run(s: &[u8], table: &mut [u32]) {

@@ -8,7 +8,7 @@ use native.Mathlib.Omega.{arith}
 use borrow.Author.Tests.{eq-eqb, ne-eqb}
 use Rattle.paper.specs.Bytes.{bytes}
 use Rattle.paper.specs.Form.{Head, Element, Elements, holding-text, holding-elements, []ᵉ, _∷ᵉ_}
-use Rattle.paper.specs.Rows.{name, name-in, rows as the-rows, leaf, group, group-under, Place, Contents, text, elements, Row, row-of, head-of, longest-of}
+use Rattle.paper.specs.Rows.{name, name-in, rows as the-rows, instant-changes, every-row, leaf, group, group-under, Place, Contents, text, elements, Row, Profile, row-of, head-of, longest-of}
 use Rattle.paper.specs.Refusals.{Refusal, refuse, _or-else_, ends, only-white, first-at, Sought, never, early, found, seek, Left, from-here, walk, walk-all}
 use Rattle.paper.specs.Answers.{refusal-found, refusal-of, numbered}
 use Rattle.paper.specs.declared.Finding.{Finding}
@@ -63,7 +63,7 @@ first-child otherwise (laid-none e) h c = absurd (omega arith)
 first-child otherwise (laid-more one others) h c = at-cell (entry-of one) c
 
 -- one element by what it holds
-module _ (profile : List Row) (judge : (parent : ℕ) → Row → Head → List ℕ → Option Refusal) (parent : ℕ) (r : Row) (h : Head) where
+module _ (profile : Profile) (judge : (parent : ℕ) → Row → Head → List ℕ → Option Refusal) (parent : ℕ) (r : Row) (h : Head) where
   pub walk-white : (w : List ℕ) (ps : List Place) → r .holds ≡ elements ps → walk profile judge (holding-text h w) parent r ≡ only-white (r .row) ps h w
   unfolding walk
   walk-white w ps e =
@@ -96,7 +96,7 @@ module _ (profile : List Row) (judge : (parent : ℕ) → Row → Head → List 
         ]) e
 
 -- one child by what comes of it
-module _ (profile : List Row) (judge : (parent : ℕ) → Row → Head → List ℕ → Option Refusal) (t : Element) (ts : Elements) (row : ℕ) (left : Left) (close : ℕ) where
+module _ (profile : Profile) (judge : (parent : ℕ) → Row → Head → List ℕ → Option Refusal) (t : Element) (ts : Elements) (row : ℕ) (left : Left) (close : ℕ) where
   abbrev after : Sought → Option Refusal
   after q =
       elim q as (λ _. Option Refusal) [
@@ -110,7 +110,7 @@ module _ (profile : List Row) (judge : (parent : ℕ) → Row → Head → List 
   child-step e = ap (λ (q : Sought). after q) e
 
 -- The children of a group as entry e that are left, from one on, and the places left for them: the walk goes on with them as it would with all.
-pub record Remaining (profile : List Row) (s tree : List ℕ) (rows places : List (List ℕ)) (judging : Bool) (e row to : ℕ) (h : Head) (ts : Elements) (next from : ℕ) (seen : Bool)
+pub record Remaining (profile : Profile) (s tree : List ℕ) (rows places : List (List ℕ)) (judging : Bool) (e row to : ℕ) (h : Head) (ts : Elements) (next from : ℕ) (seen : Bool)
     (child : ℕ) : Type 0 where
   pub rest : Elements
   pub laid : LaidAll s tree rest child next
@@ -126,7 +126,7 @@ pub record Among (s tree : List ℕ) (rows places : List (List ℕ)) (judging : 
   pub row-is : row ≡ of-entry rows e 0
   pub to-is : to ≡ of-entry rows e 5
   pub next-is : Cell tree i 4 next
-  pub remaining : (profile : List Row) → Stands profile rows places → (h : Head) (n : ℕ) → Entry s tree i h n → (ts : Elements) → LaidAll s tree ts (i + 1) n
+  pub remaining : (profile : Profile) → Stands profile rows places → (h : Head) (n : ℕ) → Entry s tree i h n → (ts : Elements) → LaidAll s tree ts (i + 1) n
       → Remaining profile s tree rows places judging e row to h ts n from seen child
 
 -- before the first child
@@ -146,7 +146,7 @@ group-starts p q r c =
 -- one child
 module _ {s tree : List ℕ} {rows places : List (List ℕ)} {judging : Bool} {i e row to next from : ℕ} {seen : Bool} {child : ℕ}
     (among : Among s tree rows places judging i e row to next from seen child) (inside : child < next) where
-  module _ {profile : List Row} (st : Stands profile rows places) {h : Head} {n : ℕ} (entry : Entry s tree i h n) {ts : Elements} (l : LaidAll s tree ts (i + 1) n) where
+  module _ {profile : Profile} (st : Stands profile rows places) {h : Head} {n : ℕ} (entry : Entry s tree i h n) {ts : Elements} (l : LaidAll s tree ts (i + 1) n) where
     abbrev left : Remaining profile s tree rows places judging e row to h ts n from seen child
     left = among .remaining profile st h n entry ts l
 
@@ -198,7 +198,7 @@ module _ {s tree : List ℕ} {rows places : List (List ℕ)} {judging : Bool} {i
 
         -- row 42 is named InstdAmt
         amount-named : of-entry rows d 0 ≡ 42 → head-of (it .one) .name ≡ bytes "InstdAmt"
-        unfolding Seeks name name-in the-rows leaf group group-under bytes
+        unfolding Seeks name name-in the-rows instant-changes every-row leaf group group-under bytes
         amount-named k = found-there .2 .name-is ∙ ap name k
 
         below : walk-all profile (judgement judging) ts (of-entry rows e 0) (from-here (places-of rows places e)) (h .close)

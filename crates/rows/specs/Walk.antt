@@ -6,24 +6,25 @@ use mathlib.Core.Option.{Option, none}
 use mathlib.Core.Path.{_≡_}
 use Rattle.paper.specs.Bytes.{bytes}
 use Rattle.paper.specs.Form.{Head, Element, Elements}
-use Rattle.paper.specs.Rows.{Row, rows as the-rows, head-of}
+use Rattle.paper.specs.Rows.{Profile, head-of}
 use Rattle.paper.specs.Refusals.{Refusal, refuse, from-here, walk, walk-all, rows-refusal, values-refusal}
-use Rattle.paper.specs.Answers.{refusal-found}
+use Rattle.paper.specs.Answers.{profile-named, refusal-found}
 use Rattle.tree.specs.Laid.{Entry, Laid, LaidAll, LaidAt}
 use Rattle.rows_places.specs.Numbers.{of-entry, places-of, row-at, Stands}
 use Rattle.paper.specs.declared.Finding.{Finding}
+use Rattle.paper.specs.declared.Profile as named
 use Rattle.rows_contents.specs.Judged.{judgement}
 use Rattle.rows_places.specs.declared.Sought.{Sought}
 use Rattle.rows_places.specs.declared.Sought.the-variants as sought
 
 -- the whole walk, from the root
-unfoldable pub refusal-by : (judging : Bool) → List Row → Element → Option Refusal
+unfoldable pub refusal-by : (judging : Bool) → Profile → Element → Option Refusal
 refusal-by false profile root = rows-refusal profile root
 refusal-by true profile root = values-refusal profile root
 
--- The promise of `rows_refusal`: of a message that is laid out, what the paper's walk over its rows refuses.
-abbrev pub WalkPromise : (s tree : List ℕ) (judging : Bool) → Finding → Type 0
-WalkPromise s tree judging f = (root : Element) → LaidAt s tree 0 root → refusal-found f ≡ refusal-by judging the-rows root
+-- The promise of `rows_refusal`: of a message that is laid out, what the paper's walk over the rows of the named profile refuses.
+abbrev pub WalkPromise : named.Profile → (s tree : List ℕ) (judging : Bool) → Finding → Type 0
+WalkPromise profile s tree judging f = (root : Element) → LaidAt s tree 0 root → refusal-found f ≡ refusal-by judging (profile-named profile) root
 
 -- the refusal of a child at this offset, unless it is found among the places left in a group of this row
 unfoldable pub unless-found : (row at : ℕ) → Sought → Option Refusal
@@ -34,13 +35,13 @@ unless-found row at (sought.Found e p seen) = none
 -- What the walk finds at element i as entry e.
 abbrev pub Walks : (s tree : List ℕ) (rows places : List (List ℕ)) (judging : Bool) (parent i e : ℕ) → Finding → Type 0
 Walks s tree rows places judging parent i e r =
-    (profile : List Row) → Stands profile rows places → (t : Element) (next : ℕ) → Laid s tree t i next
+    (profile : Profile) → Stands profile rows places → (t : Element) (next : ℕ) → Laid s tree t i next
     → (of-entry rows e 0 ≡ 42 → head-of t .name ≡ bytes "InstdAmt")
     → refusal-found r ≡ walk profile (judgement judging) t parent (row-at rows places e)
 
 -- What it finds among the children of element i as entry e.
 abbrev pub WalksAll : (s tree : List ℕ) (rows places : List (List ℕ)) (judging : Bool) (i e : ℕ) → Finding → Type 0
 WalksAll s tree rows places judging i e r =
-    (profile : List Row) → Stands profile rows places → (h : Head) (next : ℕ) → Entry s tree i h next → (ts : Elements) → LaidAll s tree ts (i + 1) next
+    (profile : Profile) → Stands profile rows places → (h : Head) (next : ℕ) → Entry s tree i h next → (ts : Elements) → LaidAll s tree ts (i + 1) next
     → refusal-found r ≡ walk-all profile (judgement judging) ts (of-entry rows e 0)
     (from-here (places-of rows places e)) (h .close)

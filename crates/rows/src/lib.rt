@@ -2,6 +2,7 @@
 // numbers (crates/rows_places/specs/Numbers.antt); every function but `rows_refusal` is for any such profile.
 use paper::Fault;
 use paper::Finding;
+use paper::Profile;
 use rows_places::Places;
 use rows_places::Rows;
 use rows_places::Sought;
@@ -100,12 +101,12 @@ fn children(
     rows_contents::ended(rows, places, from, further, to, tree::cell(tree, i, 3))
 }
 
-// The walk over the rows, from the root, which is a group: 3 and 4, or, where it is judging, 6 to 8 as well. (`element` has one caller, so the compiler makes one function
+// The walk over the rows of a profile, from the root, which is a group: 3 and 4, or, where it is judging, 6 to 8 as well. (`element` has one caller, so the compiler makes one function
 // of it and `children`, and a leaf is judged without a call.)
-pub fn rows_refusal(s: &[u8], tree: &Tree, judging: bool) -> Finding
-    ensures { λ r. ⌜ WalkPromise (now (s .entry)) (now (tree .entry)) judging r ⌝ }
+pub fn rows_refusal(profile: Profile, s: &[u8], tree: &Tree, judging: bool) -> Finding
+    ensures { λ r. ⌜ WalkPromise profile (now (s .entry)) (now (tree .entry)) judging r ⌝ }
 {
-    let rows = rows_profile::rows();
+    let rows = rows_profile::rows(profile);
     let places = rows_profile::places();
     if tree::cell(tree, 0, 4) <= 1 {
         return rows_contents::text_in_group(s, tree, &rows, &places, 0, 0);

@@ -10,7 +10,7 @@ use lib.Dec.{eqb, ltb}
 use lib.ListN.{getD}
 use borrow.Author.Tests.{ne-eqb, eqb-false, lt-ltb, le-ltb, ltb-true, ltb-false}
 use Rattle.paper.specs.Bytes.{if_then_else_, same}
-use Rattle.paper.specs.Rows.{Place, one, opt, plus, either, Row, name}
+use Rattle.paper.specs.Rows.{Place, one, opt, plus, either, Profile, name}
 use Rattle.paper.specs.Refusals.{Left, from-here, again, rows-at, required, left-of, first-row, missing-of, missing, Sought, never, early, found, past, named-in, seek-in, seek}
 use Rattle.paper.proofs.Laws.{same-says, false-not-true}
 use Rattle.form_names.specs.Names.{name-number}
@@ -135,7 +135,7 @@ module _ (rows places : List (List ℕ)) where
     missing-ends h = rw (between-none p q h)
 
 -- the name of an entry, compared by its number
-module _ {profile : List Row} {rows places : List (List ℕ)} {parent : ℕ} (w : List ℕ) (e : ℕ) (st : StandsFor profile rows places parent e) where
+module _ {profile : Profile} {rows places : List (List ℕ)} {parent : ℕ} (w : List ℕ) (e : ℕ) (st : StandsFor profile rows places parent e) where
   pub named-by : {t : Bool} → eqb (name-number w) (of-entry rows e 2) ≡ t → same w (name (of-entry rows e 0)) ≡ t
   named-by q = sym (same-number w (of-entry rows e 0) (st .row-there)) ∙ ap (λ (n : ℕ). eqb (name-number w) n) (sym (st .name-number-is)) ∙ q
 
@@ -150,7 +150,7 @@ kind-begins kind k l = go (ltb kind 3) refl
     go false e = (l ∷ [], kind-choice kind k l (ltb-false kind 3 e))
 
 -- the entry that takes a place
-module _ {profile : List Row} {rows places : List (List ℕ)} {parent p : ℕ} (w : List ℕ) (r : Resolved profile rows places parent p) where
+module _ {profile : Profile} {rows places : List (List ℕ)} {parent p : ℕ} (w : List ℕ) (r : Resolved profile rows places parent p) where
   pub by-first : {e : ℕ} → e ≡ of-place places p 1 → eqb (name-number w) (of-entry rows e 2) ≡ true → Takes profile rows places parent w p (taker.Entry e)
   unfolding Takes named-in place-at
   by-first {e} q s =
@@ -226,7 +226,7 @@ module _ (w : List ℕ) where
   seek-nothing none = refl
   seek-nothing (some k) = refl
 
-module _ (profile : List Row) (rows places : List (List ℕ)) (parent : ℕ) (w : List ℕ) where
+module _ (profile : Profile) (rows places : List (List ℕ)) (parent : ℕ) (w : List ℕ) where
   -- how far the search has come: the places from `from` up to p don't take the name
   abbrev pub SoFar : (from to p : ℕ) → Type 0
   SoFar from to p =
@@ -260,7 +260,7 @@ module _ (profile : List Row) (rows places : List (List ℕ)) (parent : ℕ) (w 
         seek-nothing w (missing-of (places-between rows places from p))
 
 -- what comes of a child whose place is known
-module _ (profile : List Row) (rows places : List (List ℕ)) (parent : ℕ) (w : List ℕ) (from to : ℕ) where
+module _ (profile : Profile) (rows places : List (List ℕ)) (parent : ℕ) (w : List ℕ) (from to : ℕ) where
   pub seek-never : {r : Standing} → StandsAt profile rows places parent w from to r → r ≡ standing.Nowhere
       → Seeks profile rows places parent w (from-here (places-between rows places from to)) from to sought.Never
   unfolding StandsAt Seeks seek

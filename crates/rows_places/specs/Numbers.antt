@@ -1,4 +1,4 @@
--- A profile, a table of rows, as numbers, so that code never searches it. An entry is a row with its place in these numbers, which has six of them: the row's number; the
+-- The rows of a profile as numbers, so that code never searches them. An entry is a row with its place in these numbers, which has six of them: the row's number; the
 -- row that it is under, or 0; its name's number; its longest length, 0 for a group; where its places start and end.
 -- A place has three: its kind (0 `one`, 1 `opt`, 2 `plus`, 3 `either`) and the two entries that may take it, one of them twice where there is no choice.
 use Prim.Native.Nat.{ℕ, zero, suc, _+_, _-_, _≤_, _<_}
@@ -8,7 +8,7 @@ use mathlib.Core.Path.{_≡_}
 use lib.Dec.{eqb, ltb}
 use lib.ListN.{getD}
 use Rattle.paper.specs.Bytes.{if_then_else_}
-use Rattle.paper.specs.Rows.{Place, one, opt, plus, either, name, Contents, text, elements, Row, row-of}
+use Rattle.paper.specs.Rows.{Place, one, opt, plus, either, name, Contents, text, elements, Row, Profile, row-of}
 use Rattle.paper.specs.Refusals.{Left, from-here, again}
 use Rattle.form_names.specs.Names.{name-number, is-row}
 
@@ -16,12 +16,12 @@ use Rattle.form_names.specs.Names.{name-number, is-row}
 unfoldable pub number-at : (lines numbers : ℕ) → List (List ℕ) → (e k : ℕ) → ℕ
 number-at lines numbers table e k = if ltb e lines && ltb k numbers then getD (getD table e []) k 0 else 0
 
--- number k of entry e, of 56; of place p, of 62
+-- number k of entry e, of 59; of place p, of 68
 abbrev pub of-entry : List (List ℕ) → (e k : ℕ) → ℕ
-of-entry rows e k = number-at 56 6 rows e k
+of-entry rows e k = number-at 59 6 rows e k
 
 abbrev pub of-place : List (List ℕ) → (p k : ℕ) → ℕ
-of-place places p k = number-at 62 3 places p k
+of-place places p k = number-at 68 3 places p k
 
 -- the row's number of the first entry of place p, and of its second
 abbrev pub first-of : (rows places : List (List ℕ)) → (p : ℕ) → ℕ
@@ -63,13 +63,13 @@ row-at rows places e =
     record { row = of-entry rows e 0; under = of-entry rows e 1; name = name (of-entry rows e 0); holds = holds-at rows places e }
 
 -- Entry e stands for the profile's row of its number under this parent, and has the number of that row's name.
-pub record StandsFor (profile : List Row) (rows places : List (List ℕ)) (parent e : ℕ) : Type 0 where
+pub record StandsFor (profile : Profile) (rows places : List (List ℕ)) (parent e : ℕ) : Type 0 where
   pub row-there : is-row (of-entry rows e 0) ≡ true
   pub row-is : row-of profile parent (of-entry rows e 0) ≡ row-at rows places e
   pub name-number-is : of-entry rows e 2 ≡ name-number (name (of-entry rows e 0))
 
 -- The numbers stand for a profile: entry 0 is row 1, and the entries at the places of an entry stand for that profile's rows under it.
-pub record Stands (profile : List Row) (rows places : List (List ℕ)) : Type 0 where
+pub record Stands (profile : Profile) (rows places : List (List ℕ)) : Type 0 where
   pub root-is : row-at rows places 0 ≡ row-of profile 0 1
   pub first-stands : (e p : ℕ) → of-entry rows e 4 ≤ p → p < of-entry rows e 5 → StandsFor profile rows places (of-entry rows e 0) (of-place places p 1)
   pub second-stands : (e p : ℕ) → of-entry rows e 4 ≤ p → p < of-entry rows e 5 → StandsFor profile rows places (of-entry rows e 0) (of-place places p 2)

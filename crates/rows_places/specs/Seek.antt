@@ -5,7 +5,7 @@ use mathlib.Core.Bool.{Bool, true}
 use mathlib.Core.Option.{Option, none, some}
 use mathlib.Core.Path.{_≡_}
 use Rattle.paper.specs.Form.{Head}
-use Rattle.paper.specs.Rows.{Row, name, row-of}
+use Rattle.paper.specs.Rows.{Profile, name, row-of}
 use Rattle.paper.specs.Refusals.{Left, rows-at, left-of, missing-of, never, early, found, named-in, seek-in, seek}
 use Rattle.paper.specs.Refusals as refusals
 use Rattle.tree.specs.Laid.{Entry}
@@ -31,7 +31,7 @@ behind (some first) never = never
 behind (some first) (early k) = early first
 behind (some first) (found k left) = early first
 
-module _ (profile : List Row) (rows places : List (List ℕ)) (parent : ℕ) where
+module _ (profile : Profile) (rows places : List (List ℕ)) (parent : ℕ) where
   -- The entries at place p stand for the profile's rows under this parent.
   pub record Resolved (p : ℕ) : Type 0 where
     pub first-stands : StandsFor profile rows places parent (of-place places p 1)
@@ -70,5 +70,5 @@ module _ (profile : List Row) (rows places : List (List ℕ)) (parent : ℕ) whe
 -- have been seen.
 abbrev pub SeekPromise : (tree : List ℕ) (rows places : List (List ℕ)) (i from : ℕ) (seen : Bool) (to : ℕ) → Sought → Type 0
 SeekPromise tree rows places i from seen to r =
-    (profile : List Row) (parent : ℕ) (s : List ℕ) (h : Head) (next : ℕ) → ResolvedBetween profile rows places parent from to → (seen ≡ true → from < to)
+    (profile : Profile) (parent : ℕ) (s : List ℕ) (h : Head) (next : ℕ) → ResolvedBetween profile rows places parent from to → (seen ≡ true → from < to)
     → Entry s tree i h next → Seeks profile rows places parent (h .name) (places-left rows places from seen to) from to r

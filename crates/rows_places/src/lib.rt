@@ -6,7 +6,7 @@ ghost use mathlib.Core.List.{List};
 ghost use Prim.Native.Nat.{ℕ, _+_, _<_};
 ghost use lib.Dec.{eqb};
 ghost use Rattle.paper.specs.Form.{Head};
-ghost use Rattle.paper.specs.Rows.{Row};
+ghost use Rattle.paper.specs.Rows.{Profile};
 ghost use Rattle.paper.specs.Refusals.{from-here, missing-of, missing};
 ghost use Rattle.form_names.specs.Names.{name-number};
 ghost use Rattle.tree.specs.Laid.{Entry};
@@ -14,9 +14,9 @@ ghost use Rattle.rows_places.specs.Numbers.{of-entry, of-place, places-b
 ghost use Rattle.rows_places.specs.Seek.{lacking, ResolvedBetween, Resolved, Takes, StandsAt, Seeks, SeekPromise};
 
 // A profile in numbers (specs/Numbers.antt): its entries, and their places.
-const ENTRIES: usize = 56;
+const ENTRIES: usize = 59;
 
-const PLACES: usize = 62;
+const PLACES: usize = 68;
 
 pub type Rows = [[u16; 6]; ENTRIES];
 
@@ -112,7 +112,7 @@ fn named(tree: &Tree, rows: &Rows, i: usize, e: u16) -> bool
 
 // The entry at place p that has the name of element i.
 fn taken_by(tree: &Tree, rows: &Rows, places: &Places, i: usize, p: u16) -> Taker
-    ensures { λ r. ⌜ ((profile : List Row) (parent : ℕ) (s : List ℕ) (h : Head) (next : ℕ) → Resolved profile (now (rows .entry)) (now (places .entry)) parent p
+    ensures { λ r. ⌜ ((profile : Profile) (parent : ℕ) (s : List ℕ) (h : Head) (next : ℕ) → Resolved profile (now (rows .entry)) (now (places .entry)) parent p
         → Entry s (now (tree .entry)) i h next → Takes profile (now (rows .entry)) (now (places .entry)) parent (h .name) p r) ⌝ }
 {
     let first = of_place(places, p, 1);
@@ -131,7 +131,7 @@ fn taken_by(tree: &Tree, rows: &Rows, places: &Places, i: usize, p: u16) -> Take
 
 // The first place from `from` up to `to` that takes the name of element i.
 fn find(tree: &Tree, rows: &Rows, places: &Places, i: usize, from: u16, to: u16) -> Standing
-    ensures { λ r. ⌜ ((profile : List Row) (parent : ℕ) (s : List ℕ) (h : Head) (next : ℕ) → ResolvedBetween profile (now (rows .entry)) (now (places .entry)) parent from to
+    ensures { λ r. ⌜ ((profile : Profile) (parent : ℕ) (s : List ℕ) (h : Head) (next : ℕ) → ResolvedBetween profile (now (rows .entry)) (now (places .entry)) parent from to
         → Entry s (now (tree .entry)) i h next → StandsAt profile (now (rows .entry)) (now (places .entry)) parent (h .name) from to r) ⌝ }
 {
     let mut p = from;
@@ -147,7 +147,7 @@ fn find(tree: &Tree, rows: &Rows, places: &Places, i: usize, from: u16, to: u16)
 
 // What comes of element i where the places from `from` up to `to` are left.
 fn seek(tree: &Tree, rows: &Rows, places: &Places, i: usize, from: u16, to: u16) -> Sought
-    ensures { λ r. ⌜ ((profile : List Row) (parent : ℕ) (s : List ℕ) (h : Head) (next : ℕ) → ResolvedBetween profile (now (rows .entry)) (now (places .entry)) parent from to
+    ensures { λ r. ⌜ ((profile : Profile) (parent : ℕ) (s : List ℕ) (h : Head) (next : ℕ) → ResolvedBetween profile (now (rows .entry)) (now (places .entry)) parent from to
         → Entry s (now (tree .entry)) i h next
         → Seeks profile (now (rows .entry)) (now (places .entry)) parent (h .name)
         (from-here (places-between (now (rows .entry)) (now (places .entry)) from to)) from to r) ⌝ }

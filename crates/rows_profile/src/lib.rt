@@ -1,11 +1,11 @@
-// The rows as numbers, laid out as crates/rows_places/specs/Numbers.antt says. A const table is made anew wherever it is used: make it once, and lend it.
+// The rows of both profiles as numbers, laid out as crates/rows_places/specs/Numbers.antt says. A const table is made anew wherever it is used: make it once, and lend it.
+use paper::Profile;
 use rows_places::Places;
 use rows_places::Rows;
 ghost use mathlib.Core.Path.{_≡_};
-ghost use Rattle.paper.specs.Rows.{rows};
-ghost use Rattle.rows_profile.specs.Profile.{entries-of, places-in};
+ghost use Rattle.rows_profile.specs.Profile.{entries-of, all-places};
 
-// For each entry: its row and the row that it is under; its name's number; its longest length; its places from and to.
+// For each entry of the first profile: its row and the row that it is under; its name's number; its longest length; its places from and to.
 const ROWS: Rows = [
     [1, 0, 1, 0, 0, 1], // 1 Document
     [2, 0, 2, 0, 1, 3], // 2 CstmrCdtTrfInitn
@@ -63,9 +63,12 @@ const ROWS: Rows = [
     [53, 0, 53, 0, 61, 62], // 53 CdOrPrtry
     [54, 0, 54, 35, 0, 0], // 54 Issr
     [55, 0, 55, 35, 0, 0], // 55 Ref
+    [0, 0, 0, 0, 0, 0], // no row: the instant profile has three more
+    [0, 0, 0, 0, 0, 0],
+    [0, 0, 0, 0, 0, 0],
 ];
 
-// For each place: its kind (0 one, 1 opt, 2 plus, 3 either), and the two entries that may take it.
+// For each place of either profile: its kind (0 one, 1 opt, 2 plus, 3 either), and the two entries that may take it.
 const PLACES: Places = [
     [0, 1, 1], // Document: one CstmrCdtTrfInitn
     [0, 2, 2], // CstmrCdtTrfInitn: one GrpHdr
@@ -129,16 +132,32 @@ const PLACES: Places = [
     [0, 53, 53], // Tp: one CdOrPrtry
     [1, 54, 54], // Tp: opt Issr
     [0, 18, 18], // CdOrPrtry: one Cd
+    [1, 16, 16], // PmtTpInf, instant: opt InstrPrty
+    [0, 17, 17], // PmtTpInf, instant: one SvcLvl
+    [0, 56, 56], // PmtTpInf, instant: one LclInstrm
+    [1, 19, 19], // PmtTpInf, instant: opt CtgyPurp
+    [3, 22, 58], // ReqdExctnDt, instant: either Dt / DtTm
+    [0, 57, 57], // LclInstrm: one Cd
 ];
 
-pub fn rows() -> Rows
-    ensures { λ r. ⌜ r ≡ entries-of rows ⌝ }
+// The entries of a profile: the instant one has five lines of its own.
+pub fn rows(profile: Profile) -> Rows
+    ensures { λ r. ⌜ r ≡ entries-of (profile .instant) ⌝ }
 {
+    if profile.instant {
+        let mut rows = ROWS;
+        rows[15] = [16, 0, 16, 0, 62, 66]; // 16 PmtTpInf
+        rows[21] = [22, 0, 22, 0, 66, 67]; // 22 ReqdExctnDt
+        rows[56] = [56, 0, 56, 0, 67, 68]; // 56 LclInstrm
+        rows[57] = [57, 0, 19, 35, 0, 0]; // 57 Cd
+        rows[58] = [58, 0, 58, 25, 0, 0]; // 58 DtTm
+        return rows;
+    }
     ROWS
 }
 
 pub fn places() -> Places
-    ensures { λ r. ⌜ r ≡ places-in rows ⌝ }
+    ensures { λ r. ⌜ r ≡ all-places ⌝ }
 {
     PLACES
 }

@@ -11,7 +11,7 @@ use lib.ListN.{length, set, length-set}
 use Rattle.paper.specs.Form.{Element, Elements}
 use Rattle.paper.specs.Payments.{Payment, listed, all-named, all-of, child, blocks, payments-from, payments}
 use Rattle.paper.specs.Refusals.{Refusal, refuse, _or-else_, sixty-fifth, too-many, limits-refusal}
-use Rattle.form_names.specs.Names.{is-row}
+use Rattle.form_names.specs.Names.{is-sought}
 use Rattle.tree.specs.Laid.{cell-of, Laid, LaidAll, LaidAt}
 use Rattle.tree.proofs.Laws.{Cell, few-enough, at-cell, entry-of}
 use Rattle.tree_routes.specs.Finds.{Next}
@@ -25,19 +25,19 @@ use Rattle.rule_limits.proofs.Steps.{paid, blocks-are, no-blocks-are, p
 
 -- what `first_in` and `next_in` answer
 abbrev pub FirstIn : (tree : List ℕ) (i row r : ℕ) → Type 0
-FirstIn tree i row r = (s : List ℕ) (t : Element) (next : ℕ) → is-row row ≡ true → Laid s tree t i next → Next s tree row (all-of row t) r next
+FirstIn tree i row r = (s : List ℕ) (t : Element) (next : ℕ) → is-sought row ≡ true → Laid s tree t i next → Next s tree row (all-of row t) r next
 
 abbrev pub NextIn : (tree : List ℕ) (i stop row r : ℕ) → Type 0
 NextIn tree i stop row r =
-    (s : List ℕ) (t : Element) (ts : Elements) (next : ℕ) → is-row row ≡ true → Laid s tree t i next → LaidAll s tree ts next stop
+    (s : List ℕ) (t : Element) (ts : Elements) (next : ℕ) → is-sought row ≡ true → Laid s tree t i next → LaidAll s tree ts next stop
     → Next s tree row (all-named row (listed ts)) r stop
 
-row-10 : is-row 10 ≡ true
-unfolding is-row
+row-10 : is-sought 10 ≡ true
+unfolding is-sought
 row-10 = refl
 
-row-37 : is-row 37 ≡ true
-unfolding is-row
+row-37 : is-sought 37 ≡ true
+unfolding is-sought
 row-37 = refl
 
 -- the blocks among some elements

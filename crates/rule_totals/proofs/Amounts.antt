@@ -14,7 +14,7 @@ use Rattle.paper.specs.Values.{cents, money}
 use Rattle.paper.specs.Payments.{Payment, text-of, follow, header-sum, instructed-amount, payments, amount-of, sum-of, total}
 use Rattle.paper.specs.Refusals.{refuse, at-of, total-refusal}
 use Rattle.paper.specs.Accepted.{All, all-more}
-use Rattle.form_names.specs.Names.{is-row}
+use Rattle.form_names.specs.Names.{is-sought}
 use Rattle.tree.specs.Laid.{LaidAt}
 use Rattle.tree.proofs.Laws.{Cell, at-cell, entry-at}
 use Rattle.tree_routes.specs.Finds.{Finds, found-at, onward}
@@ -32,8 +32,8 @@ use Rattle.rule_totals.specs.declared.Total.the-variants as totalled
 use Rattle.rule_totals.specs.Totals.{Sums, sums-to, sums-above, Totals, total-is, total-above}
 
 -- what `follow` finds from an element that is laid out
-pub route-found : {s tree : List ℕ} {i : ℕ} {f : Found} (route : List ℕ) {t : Element} → every is-row route ≡ true → LaidAt s tree i t
-    → ((o : Option Element) → every is-row route ≡ true → Finds s tree o (At i) → Finds s tree (onward route o) f) → Finds s tree (follow route t) f
+pub route-found : {s tree : List ℕ} {i : ℕ} {f : Found} (route : List ℕ) {t : Element} → every is-sought route ≡ true → LaidAt s tree i t
+    → ((o : Option Element) → every is-sought route ≡ true → Finds s tree o (At i) → Finds s tree (onward route o) f) → Finds s tree (follow route t) f
 route-found {s} {tree} {f = f} route {t} rows l h =
     subst (λ (o : Option Element). Finds s tree o f) (onward-some route t) (h (some t) rows (found-at l))
 

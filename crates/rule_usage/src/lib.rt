@@ -14,14 +14,14 @@ ghost use Rattle.paper.specs.Form.{Element};
 ghost use Rattle.paper.specs.Payments.{Payment, payments as all-payments};
 ghost use Rattle.paper.specs.Refusals.{in-both, in-neither, usage-of, usage-refusal};
 ghost use Rattle.paper.specs.Answers.{refusal-found};
-ghost use Rattle.form_names.specs.Names.{is-row};
+ghost use Rattle.form_names.specs.Names.{is-sought};
 ghost use Rattle.tree.specs.Laid.{LaidAt};
 ghost use Rattle.tree_routes.specs.Finds.{ByName};
 ghost use Rattle.rule_limits.specs.Ordered.{Ordered};
 
 // 9: the row stands in the payment and in its block.
 fn in_both(tree: &Tree, own: &Children, block: &Children, row: usize) -> Finding
-    ensures { λ r. ⌜ ((s : List ℕ) (p : Payment) → is-row row ≡ true → ByName s (now (tree .entry)) (p .own) (now (own .entry))
+    ensures { λ r. ⌜ ((s : List ℕ) (p : Payment) → is-sought row ≡ true → ByName s (now (tree .entry)) (p .own) (now (own .entry))
         → ByName s (now (tree .entry)) (p .block) (now (block .entry)) → refusal-found r ≡ in-both row p) ⌝ }
 {
     let mine = tree_routes::first(own, row);

@@ -1,6 +1,7 @@
 // Runs `verdict_reader::field` and `move_regrouping::differing` over the file `cases`, and writes for each answer the length and the bytes of what is handed back.
-// A case is `F` with name, payment, first and last field and message, which asks for each of these fields; or `D` with name, first, second and list, which asks for the
-// second regrouped from the first and for the first regrouped from the second; and a line feed.
+// A case is `F` with name, profile (1 is the instant one), payment, first and last field and message, which asks for each of these fields; or `D` with name, profile, first, second
+// and list, which asks for the second regrouped from the first and for the first regrouped from the second; and a line feed.
+use paper::Profile;
 ghost use Prim.Native.Nat.{_<_};
 ghost use lib.ListN.{length};
 
@@ -12,49 +13,84 @@ fn quoted(s: &[u8]) {
     run_printing::text(b"\"");
 }
 
-fn field_line(name: &[u8], message: &[u8], payment: usize, field: usize) {
+fn field_line(profile: Profile, name: &[u8], message: &[u8], payment: usize, field: usize) {
     run_printing::text(name);
     run_printing::text(b", payment ");
     run_printing::number(payment as u64);
     run_printing::text(b", field ");
     run_printing::number(field as u64);
     run_printing::text(b": ");
-    quoted(verdict_reader::field(message, payment, field));
+    quoted(verdict_reader::field(profile, message, payment, field));
     run_printing::text(b"\n");
 }
 
-fn each_field(name: &[u8], message: &[u8], payment: usize, first: usize, last: usize) {
+fn each_field(
+    profile: Profile,
+    name: &[u8],
+    message: &[u8],
+    payment: usize,
+    first: usize,
+    last: usize,
+) {
     for field in first..=last {
-        field_line(name, message, payment, field);
+        field_line(profile, name, message, payment, field);
+    }
+}
+
+fn profile_of(number: usize) -> Profile {
+    Profile {
+        instant: number == 1,
     }
 }
 
 // The fields that the case at an offset asks for. Answers the offset of the next case.
 fn fields_at(s: &[u8], name: &[u8], at: usize) -> usize {
-    let payment = run_frames::number_at(s, at);
+    let number = run_frames::number_at(s, at);
+    let payment = run_frames::number_at(s, number.next);
     let first = run_frames::number_at(s, payment.next);
     let last = run_frames::number_at(s, first.next);
     let message = run_frames::part_at(s, last.next);
     let a = message.start;
     let b = message.end;
-    each_field(name, &s[a..b], payment.value, first.value, last.value);
+    each_field(
+        profile_of(number.value),
+        name,
+        &s[a..b],
+        payment.value,
+        first.value,
+        last.value,
+    );
     b + 2
 }
 
-fn regrouping_line(name: &[u8], way: &[u8], first: &[u8], second: &[u8], list: &[u8]) {
+fn regrouping_line(
+    profile: Profile,
+    name: &[u8],
+    way: &[u8],
+    first: &[u8],
+    second: &[u8],
+    list: &[u8],
+) {
     run_printing::text(name);
     run_printing::text(way);
-    quoted(move_regrouping::differing(first, second, list));
+    quoted(move_regrouping::differing(profile, first, second, list));
     run_printing::text(b" ");
     run_printing::regrouping(verdict_answers::of_regrouping(move_regrouping::regroup(
+        profile,
         first,
         second,
         list,
     )));
 }
 
-// The regroupings that the case at an offset asks for. Answers the offset of the next case.
-fn regroupings_at(s: &[u8], name: &[u8], at: usize) -> usize {
+// The second regrouped from the first, and the first from the second.
+fn both_ways(profile: Profile, name: &[u8], first: &[u8], second: &[u8], list: &[u8]) {
+    regrouping_line(profile, name, b": ", first, second, list);
+    regrouping_line(profile, name, b", back: ", second, first, list);
+}
+
+// The regroupings of the parts at an offset. Answers the offset of the next case.
+fn each_way(profile: Profile, s: &[u8], name: &[u8], at: usize) -> usize {
     let first = run_frames::part_at(s, at);
     let a = first.start;
     let b = first.end;
@@ -64,9 +100,14 @@ fn regroupings_at(s: &[u8], name: &[u8], at: usize) -> usize {
     let list = run_frames::part_at(s, d + 1);
     let e = list.start;
     let f = list.end;
-    regrouping_line(name, b": ", &s[a..b], &s[c..d], &s[e..f]);
-    regrouping_line(name, b", back: ", &s[c..d], &s[a..b], &s[e..f]);
+    both_ways(profile, name, &s[a..b], &s[c..d], &s[e..f]);
     f + 2
+}
+
+// The regroupings that the case at an offset asks for. Answers the offset of the next case.
+fn regroupings_at(s: &[u8], name: &[u8], at: usize) -> usize {
+    let number = run_frames::number_at(s, at);
+    each_way(profile_of(number.value), s, name, number.next)
 }
 
 // The case at an offset. Answers the offset of the next.

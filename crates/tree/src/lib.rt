@@ -3,7 +3,7 @@ ghost use mathlib.Core.Path.{_≡_};
 ghost use mathlib.Core.Bool.{true};
 ghost use Prim.Native.Nat.{_<_};
 ghost use Rattle.paper.specs.Rows.{name};
-ghost use Rattle.form_names.specs.Names.{name-number, is-row};
+ghost use Rattle.form_names.specs.Names.{name-number, is-sought};
 ghost use Rattle.tree.specs.Laid.{cell-of};
 
 // The buffer has room for 4,700 elements. An element takes up seven bytes at least (`<a></a>`), so that the largest message has fewer.
@@ -32,9 +32,9 @@ pub fn cell(tree: &Tree, i: usize, k: usize) -> usize
     wide(tree[i * 6 + k])
 }
 
-// The number of a row's name: its own, or that of the first row of this name.
+// The number of a row's name: its own, or that of the first row of this name. (Row 57 is not looked for, and a match that reaches so far would not be made part of its callers.)
 pub fn name_of(row: usize) -> usize
-    ensures { λ r. ⌜ (is-row row ≡ true → r ≡ name-number (name row)) ⌝ }
+    ensures { λ r. ⌜ (is-sought row ≡ true → r ≡ name-number (name row)) ⌝ }
 {
     match row {
         14 => 6,

@@ -13,7 +13,7 @@ use Rattle.paper.specs.Form.{Element}
 use Rattle.paper.specs.Payments.{Payment, child, follow, in-payment, in-block, inherited, either-of}
 use Rattle.paper.specs.Fields.{Field, plain, or-means, amount-field, remittance, fields, field-element}
 use Rattle.paper.proofs.Laws.{both-left, both-right}
-use Rattle.form_names.specs.Names.{is-row}
+use Rattle.form_names.specs.Names.{is-sought}
 use Rattle.form_names.proofs.Laws.{each-number, each-says}
 use Rattle.tree_routes.specs.declared.Found.{Found}
 use Rattle.tree_routes.specs.declared.Found.the-variants.{At, Nothing}
@@ -28,13 +28,13 @@ later-rows line = rows-in (getD line 2 0 ∷ getD line 3 0 ∷ getD line 4 0 ∷
 
 -- A line's route followed: its first row, then the others.
 pub route-leads : (line : List ℕ) (t : Element) {s tree : List ℕ} {k : ℕ} {first found : Found} → k ≡ getD line 1 0
-    → (is-row k ≡ true → Finds s tree (child k t) first)
-    → (every is-row (later-rows line) ≡ true → Finds s tree (child k t) first → Finds s tree (onward (later-rows line) (child k t)) found)
-    → every is-row (route-of line) ≡ true → Finds s tree (follow (route-of line) t) found
+    → (is-sought k ≡ true → Finds s tree (child k t) first)
+    → (every is-sought (later-rows line) ≡ true → Finds s tree (child k t) first → Finds s tree (onward (later-rows line) (child k t)) found)
+    → every is-sought (route-of line) ≡ true → Finds s tree (follow (route-of line) t) found
 unfolding route-of every
 route-leads line t e f g y =
-    let x = both-left (is-row (getD line 1 0)) (every is-row (later-rows line)) y in
-    let z = both-right (is-row (getD line 1 0)) (every is-row (later-rows line)) y in
+    let x = both-left (is-sought (getD line 1 0)) (every is-sought (later-rows line)) y in
+    let z = both-right (is-sought (getD line 1 0)) (every is-sought (later-rows line)) y in
     rw (follow-step (getD line 1 0) (later-rows line) t, ← e) (g z (f (rw e x)))
 
 -- what a line leads to, by where its route is followed
@@ -55,17 +55,17 @@ module _ (line : List ℕ) (p : Payment) where
   unfolding at-line
   line-nowhere a b c = rw (ne-eqb (where-followed line) 1 a, ne-eqb (where-followed line) 2 b, ne-eqb (where-followed line) 3 c)
 
-pub rows-followed : (line : List ℕ) → (where-followed line ≡ 0 → ⊥) → of-rows line ≡ true → every is-row (route-of line) ≡ true
+pub rows-followed : (line : List ℕ) → (where-followed line ≡ 0 → ⊥) → of-rows line ≡ true → every is-sought (route-of line) ≡ true
 unfolding of-rows
 rows-followed line n y = rw (ne-eqb (where-followed line) 0 n) at y
 
 -- every line of the table is of rows
-lines-of-rows : each-number (λ n. of-rows (line-of n)) 20 0 ≡ true
-unfolding each-number of-rows route-table route-of rows-in every is-row
+lines-of-rows : each-number (λ n. of-rows (line-of n)) 21 0 ≡ true
+unfolding each-number of-rows route-table route-of rows-in every is-sought
 lines-of-rows = refl
 
-pub table-of-rows : {table : List (List ℕ)} → RoutesAre table → (n : ℕ) → n < 20 → of-rows (getD table n []) ≡ true
-table-of-rows e n h = rw e (each-says (λ n. of-rows (line-of n)) 20 0 lines-of-rows n (omega arith) (omega arith))
+pub table-of-rows : {table : List (List ℕ)} → RoutesAre table → (n : ℕ) → n < 21 → of-rows (getD table n []) ≡ true
+table-of-rows e n h = rw e (each-says (λ n. of-rows (line-of n)) 21 0 lines-of-rows n (omega arith) (omega arith))
 
 -- line 0 leads to nothing, and there is no line past the table
 module _ {table : List (List ℕ)} (e : RoutesAre table) (p : Payment) {s tree : List ℕ} {n : ℕ} where
@@ -73,7 +73,7 @@ module _ {table : List (List ℕ)} (e : RoutesAre table) (p : Payment) {s tree :
   unfolding at-line route-table
   no-line z = rw (z, e) found-nothing
 
-  pub past-lines : 20 ≤ n → Finds s tree (at-line (getD table n []) p) Nothing
+  pub past-lines : 21 ≤ n → Finds s tree (at-line (getD table n []) p) Nothing
   unfolding at-line route-table
   past-lines h = rw (e, List·getD-eq-default route-table [] h) found-nothing
 

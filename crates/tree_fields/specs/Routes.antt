@@ -9,7 +9,7 @@ use lib.Dec.{eqb}
 use Rattle.paper.specs.Bytes.{if_then_else_, every}
 use Rattle.paper.specs.Form.{Element}
 use Rattle.paper.specs.Payments.{Payment, in-payment, in-block, inherited, either-of}
-use Rattle.form_names.specs.Names.{is-row}
+use Rattle.form_names.specs.Names.{is-sought}
 use Rattle.tree_routes.specs.Finds.{rows-in}
 
 -- A line for each field, after one that stands for no field, and then the lines of other routes. A line says where its route is followed (1 in the payment,
@@ -20,7 +20,7 @@ route-table =
     (2 ∷ 13 ∷ 0 ∷ 0 ∷ 0 ∷ 0 ∷ []) ∷  -- 1 batch booking
     (3 ∷ 16 ∷ 17 ∷ 0 ∷ 0 ∷ 0 ∷ []) ∷  -- 2 priority
     (3 ∷ 16 ∷ 20 ∷ 21 ∷ 0 ∷ 0 ∷ []) ∷  -- 3 category purpose
-    (2 ∷ 22 ∷ 23 ∷ 0 ∷ 0 ∷ 0 ∷ []) ∷  -- 4 execution date
+    (2 ∷ 22 ∷ 23 ∷ 0 ∷ 0 ∷ 20 ∷ []) ∷  -- 4 execution date: the date
     (2 ∷ 24 ∷ 25 ∷ 0 ∷ 0 ∷ 0 ∷ []) ∷  -- 5 debtor's name
     (2 ∷ 26 ∷ 27 ∷ 28 ∷ 0 ∷ 0 ∷ []) ∷  -- 6 debtor's IBAN
     (2 ∷ 29 ∷ 30 ∷ 31 ∷ 0 ∷ 18 ∷ []) ∷  -- 7 debtor's agent: BIC
@@ -35,7 +35,8 @@ route-table =
     (1 ∷ 47 ∷ 21 ∷ 0 ∷ 0 ∷ 0 ∷ []) ∷  -- 16 purpose
     (1 ∷ 48 ∷ 49 ∷ 0 ∷ 0 ∷ 19 ∷ []) ∷  -- 17 remittance: free text
     (2 ∷ 29 ∷ 30 ∷ 32 ∷ 33 ∷ 0 ∷ []) ∷  -- 7 the other: NOTPROVIDED
-    (1 ∷ 48 ∷ 50 ∷ 51 ∷ 55 ∷ 0 ∷ []) ∷ []  -- 17 the other: reference
+    (1 ∷ 48 ∷ 50 ∷ 51 ∷ 55 ∷ 0 ∷ []) ∷  -- 17 the other: reference
+    (2 ∷ 22 ∷ 58 ∷ 0 ∷ 0 ∷ 0 ∷ []) ∷ []  -- 4 the other: the date and time
 
 -- The lent table is this one.
 abbrev pub RoutesAre : List (List ℕ) → Type 0
@@ -68,4 +69,4 @@ at-lines line p = either-of (at-line line p) (at-line (line-of (other-line line)
 
 -- A line's route is of rows, where it is followed.
 unfoldable pub of-rows : List ℕ → Bool
-of-rows line = if eqb (where-followed line) 0 then true else every is-row (route-of line)
+of-rows line = if eqb (where-followed line) 0 then true else every is-sought (route-of line)

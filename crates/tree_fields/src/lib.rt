@@ -10,20 +10,20 @@ ghost use Rattle.paper.specs.Bytes.{every};
 ghost use Rattle.paper.specs.Form.{Element};
 ghost use Rattle.paper.specs.Payments.{Payment, follow};
 ghost use Rattle.paper.specs.Fields.{field-element};
-ghost use Rattle.form_names.specs.Names.{is-row};
+ghost use Rattle.form_names.specs.Names.{is-sought};
 ghost use Rattle.tree_routes.specs.Finds.{Finds, ByName};
 ghost use Rattle.tree_fields.specs.Routes.{RoutesAre, route-of, at-line, of-rows};
 
 // For each field where it stands (1 in the payment, 2 in its block, 3 in the payment or else in its block), the rows of its route, and the line of another
 // route that is followed where this one leads to nothing. A const table is made anew wherever it is used: make it once, and lend it.
-pub type Routes = [[u16; 6]; 20];
+pub type Routes = [[u16; 6]; 21];
 
 const ROUTES: Routes = [
     [0, 0, 0, 0, 0, 0], // no field
     [2, 13, 0, 0, 0, 0], // 1 batch booking
     [3, 16, 17, 0, 0, 0], // 2 priority
     [3, 16, 20, 21, 0, 0], // 3 category purpose
-    [2, 22, 23, 0, 0, 0], // 4 execution date
+    [2, 22, 23, 0, 0, 20], // 4 execution date: the date
     [2, 24, 25, 0, 0, 0], // 5 debtor's name
     [2, 26, 27, 28, 0, 0], // 6 debtor's IBAN
     [2, 29, 30, 31, 0, 18], // 7 debtor's agent: BIC
@@ -39,6 +39,7 @@ const ROUTES: Routes = [
     [1, 48, 49, 0, 0, 19], // 17 remittance: free text
     [2, 29, 30, 32, 33, 0], // 7 the other: NOTPROVIDED
     [1, 48, 50, 51, 55, 0], // 17 the other: reference
+    [2, 22, 58, 0, 0, 0], // 4 the other: the date and time
 ];
 
 pub fn routes() -> Routes
@@ -49,7 +50,7 @@ pub fn routes() -> Routes
 
 // A line's route, in an element whose first children are known.
 fn within(tree: &Tree, children: &Children, line: &[u16; 6]) -> Found
-    ensures { λ r. ⌜ ((s : List ℕ) (t : Element) → every is-row (route-of (now (line .entry))) ≡ true → ByName s (now (tree .entry)) t (now (children .entry))
+    ensures { λ r. ⌜ ((s : List ℕ) (t : Element) → every is-sought (route-of (now (line .entry))) ≡ true → ByName s (now (tree .entry)) t (now (children .entry))
         → Finds s (now (tree .entry)) (follow (route-of (now (line .entry))) t) r) ⌝ }
 {
     let first = tree_routes::first(children, tree::wide(line[1]));
@@ -92,7 +93,7 @@ pub fn field_at(
     if other == 0 {
         return Found::Nothing;
     }
-    if 20 <= other {
+    if 21 <= other {
         return Found::Nothing;
     }
     along(tree, own, block, &routes[other])

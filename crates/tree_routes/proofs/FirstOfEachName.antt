@@ -11,7 +11,7 @@ use Rattle.paper.specs.Bytes.{same}
 use Rattle.paper.specs.Form.{Element, Elements, _∷ᵉ_}
 use Rattle.paper.specs.Rows.{head-of, name}
 use Rattle.paper.specs.Payments.{listed, all-named, all-of, child}
-use Rattle.form_names.specs.Names.{name-number, is-row}
+use Rattle.form_names.specs.Names.{name-number, is-sought}
 use Rattle.form_names.proofs.Laws.{number-below}
 use Rattle.tree.specs.Laid.{LaidAll, LaidAt, laid-none, laid-more}
 use Rattle.tree.proofs.Laws.{Cell, named, name-cell, next-cell, few-enough, entry-of, entry-at}
@@ -32,15 +32,15 @@ pub data SoFar (s tree firsts : List ℕ) (t : Element) (left : Elements) (k : �
 pub record Passed (s tree firsts : List ℕ) (t : Element) (at stop : ℕ) : Type 0 where
   pub left : Elements
   pub left-laid : LaidAll s tree left at stop
-  pub so-far : (k : ℕ) → is-row k ≡ true → SoFar s tree firsts t left k
+  pub so-far : (k : ℕ) → is-sought k ≡ true → SoFar s tree firsts t left k
 
 -- The same of the children of whatever element is laid out at i.
 pub record Walk (tree : List ℕ) (i : ℕ) (firsts : List ℕ) (at stop : ℕ) : Type 0 where
-  pub long : length firsts ≡ 56
+  pub long : length firsts ≡ 59
   pub passed : (s : List ℕ) (t : Element) → LaidAt s tree i t → Passed s tree firsts t at stop
 
 -- the walk begins inside the element
-pub walk-begins : {tree firsts : List ℕ} {i stop : ℕ} → length firsts ≡ 56 → ((n : ℕ) → n < 56 → getD firsts n 0 ≡ 0) → Cell tree i 4 stop
+pub walk-begins : {tree firsts : List ℕ} {i stop : ℕ} → length firsts ≡ 59 → ((n : ℕ) → n < 59 → getD firsts n 0 ≡ 0) → Cell tree i 4 stop
     → Walk tree i firsts (i + 1) stop
 walk-begins e z c =
     record {
@@ -67,10 +67,10 @@ walk-ends h w s t l = all-passed h (w .passed s t l)
 
 -- One child of the walk, and row k: it has row k's name, and its number is that name's; or it has not.
 module _ {s tree : List ℕ} {u : Element} {i number : ℕ} (l : LaidAt s tree i u) (c : Cell tree i 1 number) where
-  pub number-fits : number < 56
+  pub number-fits : number < 59
   number-fits = omega (arith, name-cell (entry-at l) c, number-below (head-of u .name))
 
-  module _ (k : ℕ) (y : is-row k ≡ true) where
+  module _ (k : ℕ) (y : is-sought k ≡ true) where
     has-name : same (head-of u .name) (name k) ≡ true → number ≡ name-number (name k)
     has-name e = eqb-true number (name-number (name k)) (named (entry-at l) k y c refl ∙ e)
 
@@ -88,7 +88,7 @@ module _ {s tree : List ℕ} {u : Element} {i number : ℕ} (l : LaidAt s tree i
         go false e (not-met z g) = not-met z (g ∙ all-passes k u us e)
 
     -- it is the first of its name, and is put down
-    module _ (firsts : List ℕ) {new : List ℕ} (long : length firsts ≡ 56) (p : new ≡ set firsts number i) where
+    module _ (firsts : List ℕ) {new : List ℕ} (long : length firsts ≡ 59) (p : new ≡ set firsts number i) where
       put-same : number ≡ name-number (name k) → first-of new k ≡ i
       put-same e =
           let h : number < length firsts = omega (arith, number-fits) in
@@ -111,11 +111,11 @@ module _ {s tree : List ℕ} {u : Element} {i number : ℕ} (l : LaidAt s tree i
 -- A child is passed: the one at `at`.
 module _ {tree firsts : List ℕ} {i at stop number : ℕ} (h : at < stop) (c : Cell tree at 1 number) where
   walk-on : {new : List ℕ} {next : ℕ} → Cell tree at 4 next → length new ≡ length firsts
-      → ((s : List ℕ) (t u : Element) (us : Elements) → LaidAt s tree at u → (k : ℕ) → is-row k ≡ true → SoFar s tree firsts t (u ∷ᵉ us) k → SoFar s tree new t us k)
+      → ((s : List ℕ) (t u : Element) (us : Elements) → LaidAt s tree at u → (k : ℕ) → is-sought k ≡ true → SoFar s tree firsts t (u ∷ᵉ us) k → SoFar s tree new t us k)
       → Walk tree i firsts at stop → Walk tree i new next stop
   walk-on {new} {next} d e on w = record { long = e ∙ w .long; passed = λ s t l. go (w .passed s t l .left-laid) (w .passed s t l .so-far) }
     where
-      go : {s : List ℕ} {t : Element} {us : Elements} → LaidAll s tree us at stop → ((k : ℕ) → is-row k ≡ true → SoFar s tree firsts t us k)
+      go : {s : List ℕ} {t : Element} {us : Elements} → LaidAll s tree us at stop → ((k : ℕ) → is-sought k ≡ true → SoFar s tree firsts t us k)
           → Passed s tree new t next stop
       go (laid-none p) f = absurd (omega arith)
       go {s} {t} (laid-more {t = u} {ts = us} {middle = middle} one all) f =
@@ -138,7 +138,7 @@ module _ {tree firsts : List ℕ} {i at stop number : ℕ} (h : at < stop) (c : 
         row-puts l c k y firsts (w .long) (p ∙ ap (set firsts number) (e (omega (arith, b)))) o n) w
 
     -- no name has such a number
-    pub walk-never : 56 ≤ number → Walk tree i firsts at stop → Walk tree i firsts next stop
+    pub walk-never : 59 ≤ number → Walk tree i firsts at stop → Walk tree i firsts next stop
     walk-never b = walk-on d refl (λ s t u us l k y m. absurd (omega (arith, number-fits l c, b)))
 
   pub walk-stuck : {A : Type 0} {next : ℕ} {s : List ℕ} {t : Element} → Cell tree at 4 next → next ≤ at → Walk tree i firsts at stop → LaidAt s tree i t → A
@@ -149,7 +149,7 @@ pub children-again : {tree children : List ℕ} {i known : ℕ} → known ≡ i 
 children-again {tree} {children} e f = subst (λ (j : ℕ). ChildrenOf tree j children) e f
 
 -- What is read from the first children of each name: nothing, an element.
-module _ {s tree : List ℕ} {t : Element} {children : List ℕ} {n : ℕ} (k : ℕ) (y : is-row k ≡ true) (e : n ≡ name-number (name k)) (b : ByName s tree t children) where
+module _ {s tree : List ℕ} {t : Element} {children : List ℕ} {n : ℕ} (k : ℕ) (y : is-sought k ≡ true) (e : n ≡ name-number (name k)) (b : ByName s tree t children) where
   finds-there : Finds s tree (child k t) (found-in children n)
   finds-there = rw e (b .finds k y)
 
@@ -161,5 +161,5 @@ module _ {s tree : List ℕ} {t : Element} {children : List ℕ} {n : ℕ} (k : 
   unfolding found-in
   first-one f z = rw f (rw (ne-eqb (getD children n 0) 0 (λ x. z (f ∙ x))) at finds-there)
 
-  pub number-of-row : {A : Type 0} → 56 ≤ n → A
+  pub number-of-row : {A : Type 0} → 59 ≤ n → A
   number-of-row h = absurd (omega (arith, e, number-below (name k)))

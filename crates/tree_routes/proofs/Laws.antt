@@ -14,7 +14,7 @@ use Rattle.paper.specs.Form.{Element, Elements, []ᵉ, _∷ᵉ_}
 use Rattle.paper.specs.Rows.{head-of, name}
 use Rattle.paper.specs.Payments.{listed, children, all-named, all-of, child, follow}
 use Rattle.paper.proofs.Laws.{both-left, both-right}
-use Rattle.form_names.specs.Names.{name-number, is-row}
+use Rattle.form_names.specs.Names.{name-number, is-sought}
 use Rattle.tree.specs.Laid.{Laid, LaidAll, laid-text, laid-elements, laid-none, laid-more}
 use Rattle.tree.proofs.Laws.{Cell, named, next-cell, entry-of}
 use Rattle.tree_routes.specs.Finds.{Finds, found-at, found-nothing, Next, no-more, one-more, rows-in, onward}
@@ -58,7 +58,7 @@ module _ {s tree : List ℕ} where
 
   module _ {k : ℕ} {ts : List Element} {i stop : ℕ} where
     -- the element at i has another name, or this one
-    module _ {r number : ℕ} (y : is-row k ≡ true) (n : number ≡ name-number (name k)) (h : i < stop) (c : Cell tree i 1 r) where
+    module _ {r number : ℕ} (y : is-sought k ≡ true) (n : number ≡ name-number (name k)) (h : i < stop) (c : Cell tree i 1 r) where
       pub passed : (r ≡ number → ⊥) → {next : ℕ} → Cell tree i 4 next → Left s tree k ts i stop → Left s tree k ts next stop
       passed d {next} f l = go (l .laid) (l .as-many)
         where
@@ -213,26 +213,26 @@ pub record Halfway (s tree route : List ℕ) (o : Option Element) (found : Found
   pub here : Option Element
   pub found-here : Finds s tree here found
   pub leads-on : onward (rows-in route) o ≡ onward (rows-in (drop j route)) here
-  pub rows-ahead : every is-row (rows-in (drop j route)) ≡ true
+  pub rows-ahead : every is-sought (rows-in (drop j route)) ≡ true
 
 module _ {s tree route : List ℕ} {o : Option Element} {found : Found} where
-  pub sets-out : every is-row (rows-in route) ≡ true → Finds s tree o found → Halfway s tree route o found 0
+  pub sets-out : every is-sought (rows-in route) ≡ true → Finds s tree o found → Halfway s tree route o found 0
   sets-out y f = record { here = o; found-here = f; leads-on = refl; rows-ahead = y }
 
   pub arrived : {j : ℕ} → rows-in (drop j route) ≡ [] → Halfway s tree route o found j → Finds s tree (onward (rows-in route) o) found
   arrived e h = rw (h .leads-on, e, onward-here (h .here)) (h .found-here)
 
   pub one-row-on : {next : Found} {j k : ℕ} → j < length route → (getD route j 0 ≡ 0 → ⊥) → k ≡ getD route j 0
-      → ((u : Option Element) → is-row k ≡ true → Finds s tree u found → Finds s tree (onward (k ∷ []) u) next)
+      → ((u : Option Element) → is-sought k ≡ true → Finds s tree u found → Finds s tree (onward (k ∷ []) u) next)
       → Halfway s tree route o found j → Halfway s tree route o next (j + 1)
   unfolding every
   one-row-on {j = j} {k = k} b n r f h =
       let ks = rows-in (drop (j + 1) route) in
       let e : rows-in (drop j route) ≡ k ∷ ks = rows-go-on route j b n ∙ ap (λ (m : ℕ). m ∷ ks) (sym r) in
-      let y : (is-row k && every is-row ks) ≡ true = ap (every is-row) (sym e) ∙ h .rows-ahead in
+      let y : (is-sought k && every is-sought ks) ≡ true = ap (every is-sought) (sym e) ∙ h .rows-ahead in
       record {
         here = onward (k ∷ []) (h .here);
-        found-here = f (h .here) (both-left (is-row k) (every is-row ks) y) (h .found-here);
+        found-here = f (h .here) (both-left (is-sought k) (every is-sought ks) y) (h .found-here);
         leads-on = h .leads-on ∙ (ap (λ (l : List ℕ). onward l (h .here)) e ∙ onward-step k ks (h .here));
-        rows-ahead = both-right (is-row k) (every is-row ks) y;
+        rows-ahead = both-right (is-sought k) (every is-sought ks) y;
       }

@@ -10,7 +10,7 @@ use Rattle.paper.specs.Bytes.{if_then_else_}
 use Rattle.paper.specs.Form.{Element, Elements}
 use Rattle.paper.specs.Rows.{name}
 use Rattle.paper.specs.Payments.{listed, all-named, child, follow}
-use Rattle.form_names.specs.Names.{name-number, is-row}
+use Rattle.form_names.specs.Names.{name-number, is-sought}
 use Rattle.tree.specs.Laid.{Laid, LaidAll, LaidAt}
 use Rattle.tree_routes.specs.declared.Found.{Found}
 use Rattle.tree_routes.specs.declared.Found.the-variants.{At, Nothing}
@@ -41,7 +41,7 @@ found-in children n = if eqb (getD children n 0) 0 then Nothing else At (getD ch
 
 -- These are the first children of each name of an element.
 pub record ByName (s tree : List ℕ) (t : Element) (children : List ℕ) : Type 0 where
-  pub finds : (k : ℕ) → is-row k ≡ true → Finds s tree (child k t) (found-in children (name-number (name k)))
+  pub finds : (k : ℕ) → is-sought k ≡ true → Finds s tree (child k t) (found-in children (name-number (name k)))
 
 -- These are the first children of each name of whatever element is laid out at i.
 abbrev pub ChildrenOf : (tree : List ℕ) (i : ℕ) (children : List ℕ) → Type 0

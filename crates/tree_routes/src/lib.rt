@@ -9,7 +9,7 @@ ghost use Rattle.paper.specs.Bytes.{every};
 ghost use Rattle.paper.specs.Form.{Element, Elements};
 ghost use Rattle.paper.specs.Rows.{name as name-of-row};
 ghost use Rattle.paper.specs.Payments.{listed, all-named, all-of, child, either-of};
-ghost use Rattle.form_names.specs.Names.{name-number, is-row};
+ghost use Rattle.form_names.specs.Names.{name-number, is-sought};
 ghost use Rattle.tree.specs.Laid.{Laid, LaidAll, LaidAt};
 ghost use Rattle.tree_routes.specs.Finds.{Finds, Next, rows-in, onward, ByName, ChildrenOf};
 
@@ -20,11 +20,11 @@ pub enum Found {
 }
 
 // The first child of each name, by the name's number; 0 where there is none.
-pub type Children = [u16; 56];
+pub type Children = [u16; 59];
 
 // Of the elements from i up to `stop`, the first whose name has this number; `stop` where there is none.
 fn next_named(tree: &Tree, i: usize, stop: usize, name: usize) -> usize
-    ensures { λ r. ⌜ (i ≤ r) × ((s : List ℕ) (row : ℕ) (ts : Elements) → is-row row ≡ true → name ≡ name-number (name-of-row row) → LaidAll s (now (tree .entry)) ts i stop
+    ensures { λ r. ⌜ (i ≤ r) × ((s : List ℕ) (row : ℕ) (ts : Elements) → is-sought row ≡ true → name ≡ name-number (name-of-row row) → LaidAll s (now (tree .entry)) ts i stop
         → Next s (now (tree .entry)) row (all-named row (listed ts)) r stop) ⌝ }
 {
     let mut at = i;
@@ -43,7 +43,7 @@ fn next_named(tree: &Tree, i: usize, stop: usize, name: usize) -> usize
 
 // The first child of element i that is named as this row; the end of the element where there is none.
 pub fn first_in(tree: &Tree, i: usize, row: usize) -> usize
-    ensures { λ r. ⌜ ((s : List ℕ) (t : Element) (next : ℕ) → is-row row ≡ true → Laid s (now (tree .entry)) t i next
+    ensures { λ r. ⌜ ((s : List ℕ) (t : Element) (next : ℕ) → is-sought row ≡ true → Laid s (now (tree .entry)) t i next
         → Next s (now (tree .entry)) row (all-of row t) r next) ⌝ }
 {
     let stop = tree::cell(tree, i, 4);
@@ -56,7 +56,7 @@ pub fn first_in(tree: &Tree, i: usize, row: usize) -> usize
 // Of the elements after element i up to `stop`, the first that is named as this row; `stop` where there is none.
 pub fn next_in(tree: &Tree, i: usize, stop: usize, row: usize) -> usize
     ensures { λ r. ⌜ (i < stop → i < r)
-        × ((s : List ℕ) (t : Element) (ts : Elements) (next : ℕ) → is-row row ≡ true → Laid s (now (tree .entry)) t i next → LaidAll s (now (tree .entry)) ts next stop
+        × ((s : List ℕ) (t : Element) (ts : Elements) (next : ℕ) → is-sought row ≡ true → Laid s (now (tree .entry)) t i next → LaidAll s (now (tree .entry)) ts next stop
         → Next s (now (tree .entry)) row (all-named row (listed ts)) r stop) ⌝ }
 {
     let next = tree::cell(tree, i, 4);
@@ -68,7 +68,7 @@ pub fn next_in(tree: &Tree, i: usize, stop: usize, row: usize) -> usize
 
 // The first child of element i that is named as this row.
 pub fn child(tree: &Tree, i: usize, row: usize) -> Found
-    ensures { λ r. ⌜ ((s : List ℕ) (t : Element) → is-row row ≡ true → LaidAt s (now (tree .entry)) i t → Finds s (now (tree .entry)) (child row t) r) ⌝ }
+    ensures { λ r. ⌜ ((s : List ℕ) (t : Element) → is-sought row ≡ true → LaidAt s (now (tree .entry)) i t → Finds s (now (tree .entry)) (child row t) r) ⌝ }
 {
     let at = first_in(tree, i, row);
     let stop = tree::cell(tree, i, 4);
@@ -80,7 +80,7 @@ pub fn child(tree: &Tree, i: usize, row: usize) -> Found
 
 // The same of an element that may be absent.
 fn child_under(tree: &Tree, found: Found, row: usize) -> Found
-    ensures { λ r. ⌜ ((s : List ℕ) (o : Option Element) → is-row row ≡ true → Finds s (now (tree .entry)) o found
+    ensures { λ r. ⌜ ((s : List ℕ) (o : Option Element) → is-sought row ≡ true → Finds s (now (tree .entry)) o found
         → Finds s (now (tree .entry)) (onward (row ∷ []) o) r) ⌝ }
 {
     match found {
@@ -91,7 +91,7 @@ fn child_under(tree: &Tree, found: Found, row: usize) -> Found
 
 // What stands at the end of a route of rows, which ends before its first 0, from an element that may be absent.
 pub fn follow(tree: &Tree, from: Found, route: &[u16]) -> Found
-    ensures { λ r. ⌜ ((s : List ℕ) (o : Option Element) → every is-row (rows-in (now (route .entry))) ≡ true → Finds s (now (tree .entry)) o from
+    ensures { λ r. ⌜ ((s : List ℕ) (o : Option Element) → every is-sought (rows-in (now (route .entry))) ≡ true → Finds s (now (tree .entry)) o from
         → Finds s (now (tree .entry)) (onward (rows-in (now (route .entry))) o) r) ⌝ }
 {
     let mut found = from;
@@ -116,7 +116,7 @@ fn narrow(x: usize) -> u16
 pub fn by_name(tree: &Tree, i: usize) -> Children
     ensures { λ r. ⌜ ChildrenOf (now (tree .entry)) i r ⌝ }
 {
-    let mut firsts = [0u16; 56];
+    let mut firsts = [0u16; 59];
     if tree::ELEMENTS <= i {
         return firsts;
     }
@@ -124,7 +124,7 @@ pub fn by_name(tree: &Tree, i: usize) -> Children
     let mut at = i + 1;
     while at < stop {
         let name = tree::cell(tree, at, 1);
-        if name < 56 {
+        if name < 59 {
             if firsts[name] == 0 {
                 firsts[name] = narrow(at);
             }
@@ -150,10 +150,10 @@ pub fn by_name_again(tree: &Tree, i: usize, known: usize, children: Children) ->
 
 // Of the first children of an element, that which is named as this row.
 pub fn first(children: &Children, row: usize) -> Found
-    ensures { λ r. ⌜ ((s tree : List ℕ) (t : Element) → is-row row ≡ true → ByName s tree t (now (children .entry)) → Finds s tree (child row t) r) ⌝ }
+    ensures { λ r. ⌜ ((s tree : List ℕ) (t : Element) → is-sought row ≡ true → ByName s tree t (now (children .entry)) → Finds s tree (child row t) r) ⌝ }
 {
     let name = tree::name_of(row);
-    if 56 <= name {
+    if 59 <= name {
         return Found::Nothing;
     }
     let i = tree::wide(children[name]);

@@ -1,4 +1,5 @@
--- The promises of the reader determine its answers; and demands 1 and 2 as the promise of `verdict` has them.
+-- The promises of the reader determine its answers; and demands 1 and 2 as the promise of `verdict` has them, in either profile (crates/paper_acceptance/proofs/Proper.antt,
+-- `named-proper`).
 use Prim.Native.Nat.{ℕ, _≤_}
 use mathlib.Core.List.{List, List·Memᴰ}
 use mathlib.Core.Path.{_≡_, refl, sym, ap, _∙_, subst}
@@ -8,7 +9,7 @@ use borrow.Author.Tests.{eqb-false}
 use denote.Ref.{RefT, now}
 use Rattle.paper.specs.Sizes.{least-table, largest-message}
 use Rattle.paper.specs.Form.{Element, FirstImpossible}
-use Rattle.paper.specs.Rows.{rows}
+use Rattle.paper.specs.Rows.{Profile}
 use Rattle.paper.specs.Payments.{blocks, payments, total}
 use Rattle.paper.specs.Refusals.{Outcome, refused-as, accepted-with, MessageAnswer, accepted, refused, answer-to, outcome, verdict}
 use Rattle.paper.specs.Accepted.{All, Accepted}
@@ -19,7 +20,7 @@ use Rattle.paper.specs.declared.Fault.{Fault}
 use Rattle.paper.specs.declared.Fault.the-variants.{NotOfTheForm}
 use Rattle.paper.specs.declared.Verdict.{Verdict}
 use Rattle.paper.specs.declared.Verdict.the-variants as the
-use Rattle.paper_acceptance.proofs.Proper.{rows-proper}
+use Rattle.paper_acceptance.proofs.Proper.{Proper}
 use Rattle.paper_acceptance.proofs.Present.{no-other-absent, FieldsThere, fields-there}
 use Rattle.paper_acceptance.proofs.Outcome.{accepted-alone, accepted-with-table}
 use Rattle.paper_acceptance.proofs.Accepts.{accepts-with-table}
@@ -28,16 +29,16 @@ use Rattle.verdict_answers.proofs.Agreement.{one-verdict, no-zero}
 use Rattle.verdict_reader.specs.Promises.{VerdictPromise, FieldPromise}
 
 -- two answers that keep the promise of `verdict`, and what they leave in the table, are the same
-pub answers-agree : {message before after other : List ℕ} (v w : Verdict) → VerdictPromise message before v after → VerdictPromise message before w other → v ≡ w
+pub answers-agree : {profile : Profile} {message before after other : List ℕ} (v w : Verdict) → VerdictPromise profile message before v after → VerdictPromise profile message before w other → v ≡ w
 answers-agree v w a b = one-verdict v w (a .answer-is ∙ sym (b .answer-is))
 
-pub tables-agree : {message before after other : List ℕ} {v w : Verdict} → VerdictPromise message before v after → VerdictPromise message before w other → after ≡ other
+pub tables-agree : {profile : Profile} {message before after other : List ℕ} {v w : Verdict} → VerdictPromise profile message before v after → VerdictPromise profile message before w other → after ≡ other
 tables-agree a b = a .table-is ∙ sym (b .table-is)
 
 -- two parts that keep the promise of `field` have the same bytes and lie at the same place
-pub fields-agree : {message a b : RefT (List ℕ)} (payment field : ℕ) → FieldPromise message payment field a → FieldPromise message payment field b
+pub fields-agree : (profile : Profile) {message a b : RefT (List ℕ)} (payment field : ℕ) → FieldPromise profile message payment field a → FieldPromise profile message payment field b
     → (now a ≡ now b) × (a .ptr .0 ≡ b .ptr .0) × (a .ptr .1 ≡ b .ptr .1)
-fields-agree payment field h g = (h .bytes-are ∙ sym (g .bytes-are), h .in-the-message ∙ sym (g .in-the-message), h .at-its-place ∙ sym (g .at-its-place))
+fields-agree profile payment field h g = (h .bytes-are ∙ sym (g .bytes-are), h .in-the-message ∙ sym (g .in-the-message), h .at-its-place ∙ sym (g .at-its-place))
 
 pub data IsAccepted : Verdict → Type 0 where
   is-accepted : {blocks payments cents : ℕ} → IsAccepted (the.Accepted blocks payments cents)
@@ -52,20 +53,20 @@ unfolding verdict-says refused
 zero-accepted (the.Accepted blocks payments cents) e = is-accepted
 zero-accepted (the.Refused f) e = absurd (eqb-false (refusal-of f .number) 0 (no-zero f) e)
 
-module _ {s before after : List ℕ} {v : Verdict} (a : VerdictPromise s before v after) where
-  number-is : verdict-says v .number ≡ verdict rows (length before) s .number
+module _ {profile : Profile} (proper : Proper profile) {s before after : List ℕ} {v : Verdict} (a : VerdictPromise profile s before v after) where
+  number-is : verdict-says v .number ≡ verdict profile (length before) s .number
   number-is = ap (λ (m : MessageAnswer). m .number) (a .answer-is)
 
   -- Demand 2: a message is accepted exactly when the table is long enough and the rules hold of it.
-  pub accepted-exactly : IsAccepted v ↔ (least-table ≤ length before) × Accepted rows s
+  pub accepted-exactly : IsAccepted v ↔ (least-table ≤ length before) × Accepted profile s
   accepted-exactly =
-      let z = the-order.accepted-zero rows rows-proper (length before) s in
+      let z = the-order.accepted-zero profile proper (length before) s in
       ((λ i. z .0 (sym number-is ∙ accepted-zero i)), (λ h. zero-accepted v (number-is ∙ z .1 h)))
 
   -- Otherwise the refusal is the first by the order of the checks: its number is one of the first stage that does not hold.
-  pub refused-by : (stage : Stage) → List·Memᴰ (verdict-says v .number) (numbers stage) ↔ FirstNot (StageHolds rows (length before) s) order stage
+  pub refused-by : (stage : Stage) → List·Memᴰ (verdict-says v .number) (numbers stage) ↔ FirstNot (StageHolds profile (length before) s) order stage
   refused-by stage =
-      let z = the-order.refused-by rows rows-proper (length before) s stage in (
+      let z = the-order.refused-by profile proper (length before) s stage in (
         (λ m. z .0 (subst (λ (n : ℕ). List·Memᴰ n (numbers stage)) number-is m)),
         (λ f. subst (λ (n : ℕ). List·Memᴰ n (numbers stage)) (sym number-is) (z .1 f)),
       )
@@ -74,13 +75,13 @@ module _ {s before after : List ℕ} {v : Verdict} (a : VerdictPromise s before 
   pub form-refused : (k : ℕ) → (v ≡ the.Refused (NotOfTheForm k)) ↔ (least-table ≤ length before) × (length s ≤ largest-message) × FirstImpossible s k
   unfolding verdict-says refusal-of numbered
   form-refused k =
-      let z = the-order.form-refused rows rows-proper (length before) s k in
+      let z = the-order.form-refused profile proper (length before) s k in
       ((λ e. z .0 (sym (a .answer-is) ∙ ap verdict-says e)), (λ h. one-verdict v (the.Refused (NotOfTheForm k)) (a .answer-is ∙ z .1 h)))
 
 -- Demand 1: after a refusal the table keeps its old numbers.
-pub refused-keeps : {s before after : List ℕ} {f : Fault} → VerdictPromise s before (the.Refused f) after → after ≡ before
+pub refused-keeps : {profile : Profile} {s before after : List ℕ} {f : Fault} → VerdictPromise profile s before (the.Refused f) after → after ≡ before
 unfolding verdict answer-to verdict-says refused accepted table-after over written
-refused-keeps {s} {before} {after} {f} a = go (outcome rows (length before) s) (a .answer-is) (a .table-is)
+refused-keeps {profile} {s} {before} {after} {f} a = go (outcome profile (length before) s) (a .answer-is) (a .table-is)
   where
     go : (o : Outcome) → refused (refusal-of f) ≡ answer-to o → after ≡ table-after o before → after ≡ before
     go (refused-as r) e t = t
@@ -88,9 +89,9 @@ refused-keeps {s} {before} {after} {f} a = go (outcome rows (length before) s) (
 
 -- On acceptance the answer holds blocks, payments and total cents, and the table each payment, of which no pair but the ultimate debtor's is absent; nor is one of the fields
 -- that must be there.
-pub record Filled (s before after : List ℕ) (b p c : ℕ) : Type 0 where
+pub record Filled (profile : Profile) (s before after : List ℕ) (b p c : ℕ) : Type 0 where
   pub root : Element
-  pub outcome-is : outcome rows (length before) s ≡ accepted-with root
+  pub outcome-is : outcome profile (length before) s ≡ accepted-with root
   pub blocks-are : b ≡ length (blocks root)
   pub payments-are : p ≡ length (payments root)
   pub cents-are : c ≡ total root
@@ -98,12 +99,12 @@ pub record Filled (s before after : List ℕ) (b p c : ℕ) : Type 0 where
   pub pairs : All PairsThere (payments root)
   pub fields : All FieldsThere (payments root)
 
-pub accepted-fills : {s before after : List ℕ} {b p c : ℕ} → VerdictPromise s before (the.Accepted b p c) after → Filled s before after b p c
+pub accepted-fills : {profile : Profile} → Proper profile → {s before after : List ℕ} {b p c : ℕ} → VerdictPromise profile s before (the.Accepted b p c) after → Filled profile s before after b p c
 unfolding verdict verdict-says answer-to accepted
-accepted-fills {s} {before} {after} {b} {p} {c} a =
-    let h = accepted-exactly a .0 is-accepted in
-    let r = accepts-with-table rows rows-proper (length before) s (h .0) .1 (h .1) in
-    let t = accepted-with-table rows rows-proper (length before) s (r .0) .0 (r .1) in
+accepted-fills {profile} proper {s} {before} {after} {b} {p} {c} a =
+    let h = accepted-exactly proper a .0 is-accepted in
+    let r = accepts-with-table profile proper (length before) s (h .0) .1 (h .1) in
+    let t = accepted-with-table profile proper (length before) s (r .0) .0 (r .1) in
     let e : accepted b p c ≡ answer-to (accepted-with (r .0)) = a .answer-is ∙ ap answer-to (r .1) in
     record {
       root = r .0;
@@ -112,6 +113,6 @@ accepted-fills {s} {before} {after} {b} {p} {c} a =
       payments-are = ap (λ (m : MessageAnswer). m .payments) e;
       cents-are = ap (λ (m : MessageAnswer). m .cents) e;
       table-is = a .table-is ∙ ap (λ (o : Outcome). table-after o before) (r .1);
-      pairs = no-other-absent rows rows-proper (r .0) (accepted-alone rows rows-proper s (r .0) .0 (t .1) .2);
-      fields = fields-there rows rows-proper (r .0) (accepted-alone rows rows-proper s (r .0) .0 (t .1) .2 .but-counts .rows);
+      pairs = no-other-absent profile proper (r .0) (accepted-alone profile proper s (r .0) .0 (t .1) .2);
+      fields = fields-there profile proper (r .0) (accepted-alone profile proper s (r .0) .0 (t .1) .2 .but-counts .rows);
     }

@@ -6,12 +6,13 @@ use mathlib.Core.Option.{Option, none, some}
 use mathlib.Core.Path.{_≡_, refl}
 use lib.ListN.{length}
 use Rattle.paper.specs.Form.{Element}
-use Rattle.paper.specs.Rows.{rows}
+use Rattle.paper.specs.Rows.{Profile}
 use Rattle.paper.specs.Values.{cents}
 use Rattle.paper.specs.Payments.{Payment, text-of, all-of, follow, blocks, payments, payments-of, payments-from, amount-of}
 use Rattle.paper.specs.Refusals.{values-refusal}
 use Rattle.paper.specs.Accepted.{All, all-none, all-more}
 use Rattle.paper.proofs.Laws.{all-joined}
+use Rattle.paper_acceptance.proofs.Proper.{Proper}
 use Rattle.tree_leaves.specs.Readable.{ReadPayment}
 use Rattle.verdict_table.specs.Rows.{Fitting}
 use Rattle.verdict_stages.proofs.Readable.{readable, small-amounts}
@@ -40,6 +41,6 @@ zipped : {l : List Payment} → All ReadPayment l → All (λ (p : Payment). (u 
 zipped all-none all-none all-none = all-none
 zipped (all-more {a = p} r h) (all-more c k) (all-more n m) = all-more (record { amount = r .amount; small = small-amount p c; numbered = n }) (zipped h k m)
 
-pub fits : (root : Element) → values-refusal rows root ≡ none → length (blocks root) ≤ 16 → All Fitting (payments root)
+pub fits : {profile : Profile} → Proper profile → (root : Element) → values-refusal profile root ≡ none → length (blocks root) ≤ 16 → All Fitting (payments root)
 unfolding payments
-fits root v b = zipped (readable root v .in-payments) (small-amounts root v) (numbered-from 0 65536 (blocks root) (omega arith))
+fits proper root v b = zipped (readable proper root v .in-payments) (small-amounts proper root v) (numbered-from 0 65536 (blocks root) (omega arith))

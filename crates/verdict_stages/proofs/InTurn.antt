@@ -8,7 +8,7 @@ use borrow.Author.Tests.{le-ltb, lt-ltb}
 use lib.ListN.{length}
 use Rattle.paper.specs.Form.{Element}
 use Rattle.paper.specs.Computed.Reading.{read, root-is, stops-at}
-use Rattle.paper.specs.Rows.{rows}
+use Rattle.paper.specs.Rows.{Profile}
 use Rattle.paper.specs.Payments.{blocks, payments, total}
 use Rattle.paper.specs.Refusals.{Refusal, refuse, _or-else_, size-refusal, refused-as, accepted-with, unless-refused, of-reading, outcome-alone, answer-to, tree-refusal, rows-refusal, limits-refusal, values-refusal, total-refusal, counts-refusal}
 use Rattle.paper.specs.Answers.{refusal-of, numbered, refusal-found, verdict-says}
@@ -33,20 +33,21 @@ use Rattle.paper_grammar.proofs.Decides.{refusal-is-stop}
 use Rattle.paper_grammar.proofs.Complete.{complete}
 use Rattle.verdict_stages.specs.Decided.{from-total, from-values, Passes, refuses, accepts, Decided, decided-refused, decided-accepted}
 use Rattle.verdict_stages.proofs.Readable.{readable}
+use Rattle.paper_acceptance.proofs.Proper.{Proper}
 use Rattle.paper_acceptance.proofs.OneWalk.{rows-first}
 use Rattle.verdict_stages.proofs.Fits.{fits}
 
-of-the-form : (s : List ℕ) {root : Element} → length s ≤ 32768 → read s ≡ root-is root → outcome-alone rows s ≡ unless-refused (tree-refusal rows root) (accepted-with root)
+of-the-form : (profile : Profile) (s : List ℕ) {root : Element} → length s ≤ 32768 → read s ≡ root-is root → outcome-alone profile s ≡ unless-refused (tree-refusal profile root) (accepted-with root)
 unfolding outcome-alone size-refusal refuse unless-refused of-reading
-of-the-form s h e = rw (le-ltb 32768 (length s) h, e)
+of-the-form profile s h e = rw (le-ltb 32768 (length s) h, e)
 
-size-refused : (s : List ℕ) → 32768 < length s → outcome-alone rows s ≡ refused-as (refusal-of MessageTooLong)
+size-refused : (profile : Profile) (s : List ℕ) → 32768 < length s → outcome-alone profile s ≡ refused-as (refusal-of MessageTooLong)
 unfolding outcome-alone size-refusal refuse unless-refused refusal-of numbered
-size-refused s h = rw (lt-ltb 32768 (length s) h)
+size-refused profile s h = rw (lt-ltb 32768 (length s) h)
 
-not-of-the-form : (s : List ℕ) {n : ℕ} → length s ≤ 32768 → read s ≡ stops-at n → outcome-alone rows s ≡ refused-as (refusal-of (NotOfTheForm n))
+not-of-the-form : (profile : Profile) (s : List ℕ) {n : ℕ} → length s ≤ 32768 → read s ≡ stops-at n → outcome-alone profile s ≡ refused-as (refusal-of (NotOfTheForm n))
 unfolding outcome-alone size-refusal refuse unless-refused of-reading refusal-of numbered
-not-of-the-form s h e = rw (le-ltb 32768 (length s) h, e)
+not-of-the-form profile s h e = rw (le-ltb 32768 (length s) h, e)
 
 -- a finding that refuses, and one that does not
 found-refused : {f : Finding} {x : Fault} {a : Option Refusal} → refusal-found f ≡ a → f ≡ finding.Refused x → a ≡ some (refusal-of x)
@@ -89,10 +90,10 @@ module _ {s tree order : List ℕ} {root : Element} {t : Total} (h : Totals root
     unfolding _or-else_
     counts-refused {x} d = refuses {f = x} (rw (total-fits h e .0) (found-refused is d))
 
-    pub all-passed : {b p : ℕ} → f ≡ finding.Nothing → Ordered s tree order root → b ≡ length (blocks root) → p ≡ length (payments root) → p ≤ 64 → b ≤ 16
-        → values-refusal rows root ≡ none → Passes s tree order root (from-total root) (Accepted b p n)
+    pub all-passed : {profile : Profile} → Proper profile → {b p : ℕ} → f ≡ finding.Nothing → Ordered s tree order root → b ≡ length (blocks root) → p ≡ length (payments root) → p ≤ 64 → b ≤ 16
+        → values-refusal profile root ≡ none → Passes s tree order root (from-total root) (Accepted b p n)
     unfolding _or-else_
-    all-passed {b} {p} d o x y few small v =
+    all-passed proper {b} {p} d o x y few small v =
         accepts (rw (total-fits h e .0) (found-none is d))
         (record {
           ordered = o;
@@ -100,39 +101,39 @@ module _ {s tree order : List ℕ} {root : Element} {t : Total} (h : Totals root
           payments-are = y;
           few = few;
           total-is = total-fits h e .1;
-          readable = readable root v;
-          fitting = fits root v (omega (arith, x, small));
+          readable = readable proper root v;
+          fitting = fits proper root v (omega (arith, x, small));
         })
 
 pub the-total : {root : Element} {t : Total} {n : ℕ} → Totals root t → t ≡ totalled.Cents n → n ≡ total root
 the-total h e = total-fits h e .1
 
-pub no-values-refusal : (root : Element) {f : Finding} → refusal-found f ≡ values-refusal rows root → f ≡ finding.Nothing → values-refusal rows root ≡ none
-no-values-refusal root e d = found-none e d
+pub no-values-refusal : (profile : Profile) (root : Element) {f : Finding} → refusal-found f ≡ values-refusal profile root → f ≡ finding.Nothing → values-refusal profile root ≡ none
+no-values-refusal profile root e d = found-none e d
 
 -- 3 and 4
-pub rows-refused : {s tree order : List ℕ} {root : Element} {f : Finding} → refusal-found f ≡ rows-refusal rows root → {x : Fault} → f ≡ finding.Refused x
-    → Passes s tree order root (tree-refusal rows root) (Refused x)
+pub rows-refused : (profile : Profile) {s tree order : List ℕ} {root : Element} {f : Finding} → refusal-found f ≡ rows-refusal profile root → {x : Fault} → f ≡ finding.Refused x
+    → Passes s tree order root (tree-refusal profile root) (Refused x)
 unfolding tree-refusal
-rows-refused is d = first-refuses _ _ is d
+rows-refused profile is d = first-refuses _ _ is d
 
-pub rows-refused-first : {s tree order : List ℕ} {root : Element} {f : Finding} → refusal-found f ≡ values-refusal rows root → {x : Fault} → f ≡ finding.Refused x
-    → refusal-of x .number < 5 → Passes s tree order root (tree-refusal rows root) (Refused x)
+pub rows-refused-first : (profile : Profile) {s tree order : List ℕ} {root : Element} {f : Finding} → refusal-found f ≡ values-refusal profile root → {x : Fault} → f ≡ finding.Refused x
+    → refusal-of x .number < 5 → Passes s tree order root (tree-refusal profile root) (Refused x)
 unfolding tree-refusal _or-else_
-rows-refused-first {root = root} is {x} d l = refuses {f = x} (rw (rows-first rows root (found-refused is d) l))
+rows-refused-first profile {root = root} is {x} d l = refuses {f = x} (rw (rows-first profile root (found-refused is d) l))
 
-pub no-rows-refusal : (root : Element) {f : Finding} → refusal-found f ≡ rows-refusal rows root → f ≡ finding.Nothing → rows-refusal rows root ≡ none
-no-rows-refusal root e d = found-none e d
+pub no-rows-refusal : (profile : Profile) (root : Element) {f : Finding} → refusal-found f ≡ rows-refusal profile root → f ≡ finding.Nothing → rows-refusal profile root ≡ none
+no-rows-refusal profile root e d = found-none e d
 
 -- then 5
-module _ {s tree order : List ℕ} {root : Element} (none-of-rows : rows-refusal rows root ≡ none) where
+module _ (profile : Profile) {s tree order : List ℕ} {root : Element} (none-of-rows : rows-refusal profile root ≡ none) where
   module _ {l : Limits} (within : Limited s tree order root l) where
-    pub limits-refused : {element offset : ℕ} → l ≡ Excess element offset → Passes s tree order root (tree-refusal rows root) (Refused (TooMany element offset))
+    pub limits-refused : {element offset : ℕ} → l ≡ Excess element offset → Passes s tree order root (tree-refusal profile root) (Refused (TooMany element offset))
     unfolding tree-refusal _or-else_ refuse refusal-of numbered
     limits-refused {element} {offset} e = rw none-of-rows (go within e)
       where
         go : {l : Limits} → Limited s tree order root l → l ≡ Excess element offset
-            → Passes s tree order root (limits-refusal root or-else from-values root)
+            → Passes s tree order root (limits-refusal root or-else from-values profile root)
             (Refused (TooMany element offset))
         go (is-within a b c o) e = let z : _≡_ {A = ℕ} 0 1 = cc in absurd (omega (arith, z))
         go (is-excess {element = x} {offset = y} a) e =
@@ -142,13 +143,13 @@ module _ {s tree order : List ℕ} {root : Element} (none-of-rows : rows-refusal
 
     pub limits-passed : {b p : ℕ} {v : Verdict} → l ≡ Within b p
         → (Ordered s tree order root → b ≡ length (blocks root) → p ≡ length (payments root)
-        → Passes s tree order root (from-values root) v)
-        → Passes s tree order root (tree-refusal rows root) v
+        → Passes s tree order root (from-values profile root) v)
+        → Passes s tree order root (tree-refusal profile root) v
     unfolding tree-refusal _or-else_
     limits-passed {b} {p} {v} e then = rw none-of-rows (go within e)
       where
         go : {l : Limits} → Limited s tree order root l → l ≡ Within b p
-            → Passes s tree order root (limits-refusal root or-else from-values root) v
+            → Passes s tree order root (limits-refusal root or-else from-values profile root) v
         go (is-within {b = x} {p = y} a m n o) e =
             let g : x ≡ b = cc in
             let h : y ≡ p = cc in
@@ -171,45 +172,45 @@ few-payments {l} {b} {p} f e = go l f e
     go (Excess x y) f e = let z : _≡_ {A = ℕ} 0 1 = cc in absurd (omega (arith, z))
 
 -- the whole outcome
-outcome-refused : (root : Element) (x : Fault) → tree-refusal rows root ≡ some (refusal-of x) → unless-refused (tree-refusal rows root) (accepted-with root) ≡ refused-as (refusal-of x)
+outcome-refused : (profile : Profile) (root : Element) (x : Fault) → tree-refusal profile root ≡ some (refusal-of x) → unless-refused (tree-refusal profile root) (accepted-with root) ≡ refused-as (refusal-of x)
 unfolding unless-refused
-outcome-refused root x e = rw e
+outcome-refused profile root x e = rw e
 
-outcome-accepted : (root : Element) → tree-refusal rows root ≡ none → unless-refused (tree-refusal rows root) (accepted-with root) ≡ accepted-with root
+outcome-accepted : (profile : Profile) (root : Element) → tree-refusal profile root ≡ none → unless-refused (tree-refusal profile root) (accepted-with root) ≡ accepted-with root
 unfolding unless-refused
-outcome-accepted root e = rw e
+outcome-accepted profile root e = rw e
 
-decide : {s tree order : List ℕ} {root : Element} → length s ≤ 32768 → read s ≡ root-is root → LaidAt s tree 0 root → {v : Verdict}
-    → Passes s tree order root (tree-refusal rows root) v → Decided s tree order v
-decide {s} {root = root} l r t (refuses {f = x} e) = decided-refused (of-the-form s l r ∙ outcome-refused root x e)
-decide {s} {root = root} l r t (accepts e p) = decided-accepted l (of-the-form s l r ∙ outcome-accepted root e) t p
+decide : {profile : Profile} {s tree order : List ℕ} {root : Element} → length s ≤ 32768 → read s ≡ root-is root → LaidAt s tree 0 root → {v : Verdict}
+    → Passes s tree order root (tree-refusal profile root) v → Decided profile s tree order v
+decide {profile} {s} {root = root} l r t (refuses {f = x} e) = decided-refused (of-the-form profile s l r ∙ outcome-refused profile root x e)
+decide {profile} {s} {root = root} l r t (accepts e p) = decided-accepted l (of-the-form profile s l r ∙ outcome-accepted profile root e) t p
 
 -- 1 and 2
-pub too-long : {s tree order : List ℕ} → 32768 < length s → Decided s tree order (Refused MessageTooLong)
-too-long {s} h = decided-refused (size-refused s h)
+pub too-long : {profile : Profile} {s tree order : List ℕ} → 32768 < length s → Decided profile s tree order (Refused MessageTooLong)
+too-long {profile} {s} h = decided-refused (size-refused profile s h)
 
-module _ {s tree : List ℕ} {f : Form} (says : FormPromise s tree f) (h : length s ≤ 32768) where
-  pub form-refuses : {order : List ℕ} {n : ℕ} → f ≡ RefusedAt n → Decided s tree order (Refused (NotOfTheForm n))
+module _ (profile : Profile) {s tree : List ℕ} {f : Form} (says : FormPromise s tree f) (h : length s ≤ 32768) where
+  pub form-refuses : {order : List ℕ} {n : ℕ} → f ≡ RefusedAt n → Decided profile s tree order (Refused (NotOfTheForm n))
   unfolding FormPromise
-  form-refuses {n = n} e = decided-refused (not-of-the-form s h (refusal-is-stop s n (rw e at says)))
+  form-refuses {n = n} e = decided-refused (not-of-the-form profile s h (refusal-is-stop s n (rw e at says)))
 
   laid-out : f ≡ OfTheForm → LaidOut s tree
   unfolding FormPromise
   laid-out e = rw e at says
 
-  pub form-passes : {order : List ℕ} {v : Verdict} → f ≡ OfTheForm → ((root : Element) → LaidAt s tree 0 root → Passes s tree order root (tree-refusal rows root) v) → Decided s tree order v
+  pub form-passes : {order : List ℕ} {v : Verdict} → f ≡ OfTheForm → ((root : Element) → LaidAt s tree 0 root → Passes s tree order root (tree-refusal profile root) v) → Decided profile s tree order v
   form-passes e passes = let l = laid-out e in decide h (complete (l .message)) (l .laid h) (passes (l .root) (l .laid h))
 
 -- a message that was refused is refused where no table is lent
-pub refused-has : {s tree order : List ℕ} {v : Verdict} {f : Fault} → Decided s tree order v → v ≡ Refused f → outcome-alone rows s ≡ refused-as (refusal-of f)
+pub refused-has : {profile : Profile} {s tree order : List ℕ} {v : Verdict} {f : Fault} → Decided profile s tree order v → v ≡ Refused f → outcome-alone profile s ≡ refused-as (refusal-of f)
 refused-has {f = f} (decided-refused {f = x} o) e = let g : x ≡ f = cc in o ∙ ap (λ (z : Fault). refused-as (refusal-of z)) g
 refused-has (decided-accepted l o t q) e = let z : _≡_ {A = ℕ} 0 1 = cc in absurd (omega (arith, z))
 
 -- Two answers that meet `outcome`'s contract agree.
-decided-says : {s tree order : List ℕ} {v : Verdict} → Decided s tree order v → verdict-says v ≡ answer-to (outcome-alone rows s)
+decided-says : {profile : Profile} {s tree order : List ℕ} {v : Verdict} → Decided profile s tree order v → verdict-says v ≡ answer-to (outcome-alone profile s)
 unfolding verdict-says answer-to
 decided-says (decided-refused e) = rw e refl
 decided-says (decided-accepted h e l p) = rw (e, p .blocks-are, p .payments-are, p .total-is) refl
 
-pub decided-agree : {s tree order other-tree other-order : List ℕ} (v w : Verdict) → Decided s tree order v → Decided s other-tree other-order w → v ≡ w
+pub decided-agree : {profile : Profile} {s tree order other-tree other-order : List ℕ} (v w : Verdict) → Decided profile s tree order v → Decided profile s other-tree other-order w → v ≡ w
 decided-agree v w a b = one-verdict v w (decided-says a ∙ sym (decided-says b))

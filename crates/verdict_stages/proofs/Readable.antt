@@ -1,22 +1,23 @@
 -- Where the walk of 6 to 8 refuses nothing, counts, sums and amounts can be read as numbers.
 use Prim.Native.Nat.{ℕ, _≤_}
+use Prim.Native.String.{String}
 use mathlib.Core.List.{List, [], _∷_}
 use mathlib.Core.Bool.{true, not}
 use mathlib.Core.Option.{none, some}
-use mathlib.Core.Path.{_≡_, refl, sym, _∙_}
+use mathlib.Core.Path.{_≡_, refl, sym, ap, subst, _∙_}
 use borrow.Author.Tests.{le-leb, leb-true}
 use native.Mathlib.Omega.{arith}
 use lib.ListN.{length}
 use lib.Dec.{leb}
 use Rattle.paper.specs.Bytes.{bytes, every, digit, same}
 use Rattle.paper.specs.Form.{Head, Element}
-use Rattle.paper.specs.Rows.{rows, row-of, leaf, group, group-under, longest-of}
+use Rattle.paper.specs.Rows.{Row, text, leaf, Profile, longest-of}
 use Rattle.paper.specs.Values.{among, lies-from, digits, count, money, amount, cents, right-for, spaces-alone, allowed}
 use Rattle.paper.specs.Payments.{Payment, text-of, follow, of-header, payments}
-use Rattle.paper.specs.Refusals.{values-refusal}
+use Rattle.paper.specs.Refusals.{values-refusal, among-texts}
 use Rattle.paper.specs.Accepted.{All, RightText}
 use Rattle.paper.proofs.Laws.{both, both-left, both-right, all-map}
-use Rattle.paper_acceptance.proofs.Proper.{rows-proper}
+use Rattle.paper_acceptance.proofs.Proper.{Proper, root-route, block-route}
 use Rattle.paper_acceptance.proofs.Present.{PaymentAs}
 use Rattle.paper_acceptance.proofs.RightValues.{RightAs, header-right, blocks-right, payments-right, block-leaf-right, amount-right}
 use Rattle.tree_leaves.specs.Readable.{ReadBlock, Readable}
@@ -26,19 +27,18 @@ right-value : (parent row : ℕ) (currency w : List ℕ) → allowed parent row 
 unfolding allowed
 right-value parent row currency w e = both-right (not (spaces-alone w)) _ e
 
-count-read : (parent k : ℕ) {h : Head} {w : List ℕ} → RightText parent (row-of rows parent k) h w → longest-of (row-of rows parent k .holds) ≡ 15
-    → ((currency : List ℕ) → right-for parent (row-of rows parent k .row) currency w ≡ count w) → digits 1 15 w ≡ true
+count-read : (parent : ℕ) {r : Row} {h : Head} {w : List ℕ} → RightText parent r h w → longest-of (r .holds) ≡ 15
+    → ((currency : List ℕ) → right-for parent (r .row) currency w ≡ count w) → digits 1 15 w ≡ true
 unfolding digits lies-from count
-count-read parent k {w = w} r l a =
+count-read parent {w = w} r l a =
     both (both (le-leb 1 (length w) (r .not-empty)) (le-leb (length w) 15 (omega (arith, r .not-too-long, l))))
     (both-right (leb 1 (length w)) (every digit w) (sym (a _) ∙ right-value _ _ _ w (r .value)))
 
-money-read : (parent k : ℕ) {h : Head} {w : List ℕ} → RightText parent (row-of rows parent k) h w
-    → ((currency : List ℕ) → right-for parent (row-of rows parent k .row) currency w ≡ money w) → money w ≡ true
-money-read parent k {w = w} r a = sym (a _) ∙ right-value _ _ _ w (r .value)
+money-read : (parent : ℕ) {r : Row} {h : Head} {w : List ℕ} → RightText parent r h w → ((currency : List ℕ) → right-for parent (r .row) currency w ≡ money w) → money w ≡ true
+money-read parent {w = w} r a = sym (a _) ∙ right-value _ _ _ w (r .value)
 
-amount-read : {h : Head} {w : List ℕ} → RightText 41 (row-of rows 41 42) h w → amount w ≡ true
-unfolding right-for rows row-of leaf group group-under bytes among
+amount-read : {h : Head} {w : List ℕ} → RightText 41 (leaf 42 "InstdAmt" 18) h w → amount w ≡ true
+unfolding right-for leaf bytes among
 amount-read {h} {w} r = both-left (amount w) (same (h .currency) (bytes "EUR")) (right-value _ _ _ w (r .value))
 
 amount-money : (w : List ℕ) → amount w ≡ true → money w ≡ true
@@ -49,36 +49,46 @@ pub amount-small : (w : List ℕ) → amount w ≡ true → cents w ≤ 99999999
 unfolding amount lies-from
 amount-small w e = leb-true (cents w) 99999999999 (both-right (leb 1 (cents w)) _ (both-right (money w) _ e))
 
-amount-of-payment : (p : Payment) → PaymentAs rows rows-proper RightText p → (u : Element) → follow (41 ∷ 42 ∷ []) (p .own) ≡ some u → amount (text-of u) ≡ true
-unfolding rows row-of leaf group group-under bytes
-amount-of-payment p c u e = amount-read (amount-right rows rows-proper (p .own) (c .own-as) 18 u refl e)
+-- a right text of a row that is known, and what that row holds
+known : {parent : ℕ} {r q : Row} {h : Head} {w : List ℕ} → r ≡ q → RightText parent r h w → RightText parent q h w
+known {parent} {h = h} {w = w} e c = subst (λ (r : Row). RightText parent r h w) e c
 
-in-block : (b : Element) → RightAs rows rows-proper 2 10 b → ReadBlock b
-unfolding right-for rows row-of leaf group group-under bytes among longest-of
-in-block b c =
-    record {
-      count = λ t e. count-read 10 14 (block-leaf-right rows rows-proper b c 14 15 t (rows-proper .block-count) refl e) refl (λ _. refl);
-      sum = λ t e. money-read 10 15 (block-leaf-right rows rows-proper b c 15 18 t (rows-proper .block-sum) refl e) (λ _. refl);
-    }
+holds-of : {r : Row} (row : ℕ) (name : String) (longest : ℕ) → r ≡ leaf row name longest → r .holds ≡ text longest
+unfolding leaf
+holds-of row name longest e = ap (λ (r : Row). r .holds) e
 
-module _ (root : Element) (right : values-refusal rows root ≡ none) where
-  header-count : (t : Element) → of-header 6 root ≡ some t → digits 1 15 (text-of t) ≡ true
-  unfolding right-for rows row-of leaf group group-under bytes among longest-of
-  header-count t e = count-read 3 6 (header-right rows rows-proper root right 6 15 t (rows-proper .header-count) refl e) refl (λ c. refl)
+module _ {profile : Profile} (proper : Proper profile) where
+  amount-of-payment : (p : Payment) → PaymentAs profile proper RightText p → (u : Element) → follow (41 ∷ 42 ∷ []) (p .own) ≡ some u → amount (text-of u) ≡ true
+  amount-of-payment p c u e = amount-read (known (proper .amount-is) (amount-right profile proper (p .own) (c .own-as) 18 u (holds-of _ _ _ (proper .amount-is)) e))
 
-  header-sum : (t : Element) → of-header 7 root ≡ some t → money (text-of t) ≡ true
-  unfolding right-for rows row-of leaf group group-under bytes among longest-of
-  header-sum t e = money-read 3 7 (header-right rows rows-proper root right 7 18 t (rows-proper .header-sum) refl e) (λ c. refl)
-
-  pub readable : Readable root
-  readable =
+  in-block : (b : Element) → RightAs profile proper 2 10 b → ReadBlock b
+  unfolding right-for leaf among longest-of among-texts same
+  in-block b c =
       record {
-        header-count = header-count;
-        header-sum = header-sum;
-        in-blocks = all-map in-block (blocks-right rows rows-proper root right);
-        in-payments = all-map (λ p c. record { amount = λ u e. amount-money (text-of u) (amount-of-payment p c u e) }) (payments-right rows rows-proper root right);
+        count = λ t e.
+            count-read 10 (known (proper .block-count-is) (block-leaf-right profile proper b c 14 15 t (block-route proper _ refl) (holds-of _ _ _ (proper .block-count-is)) e)) refl (λ _. refl);
+        sum = λ t e. money-read 10 (known (proper .block-sum-is) (block-leaf-right profile proper b c 15 18 t (block-route proper _ refl) (holds-of _ _ _ (proper .block-sum-is)) e)) (λ _. refl);
       }
 
-  -- the amounts of the payments lie within row 42's limits
-  pub small-amounts : All (λ (p : Payment). (u : Element) → follow (41 ∷ 42 ∷ []) (p .own) ≡ some u → cents (text-of u) ≤ 99999999999) (payments root)
-  small-amounts = all-map (λ p c u e. amount-small (text-of u) (amount-of-payment p c u e)) (payments-right rows rows-proper root right)
+  module _ (root : Element) (right : values-refusal profile root ≡ none) where
+    header-count : (t : Element) → of-header 6 root ≡ some t → digits 1 15 (text-of t) ≡ true
+    unfolding right-for leaf among longest-of among-texts same
+    header-count t e =
+        count-read 3 (known (proper .header-count-is) (header-right profile proper root right 6 15 t (root-route proper _ refl) (holds-of _ _ _ (proper .header-count-is)) e)) refl (λ c. refl)
+
+    header-sum : (t : Element) → of-header 7 root ≡ some t → money (text-of t) ≡ true
+    unfolding right-for leaf among longest-of among-texts same
+    header-sum t e = money-read 3 (known (proper .header-sum-is) (header-right profile proper root right 7 18 t (root-route proper _ refl) (holds-of _ _ _ (proper .header-sum-is)) e)) (λ c. refl)
+
+    pub readable : Readable root
+    readable =
+        record {
+          header-count = header-count;
+          header-sum = header-sum;
+          in-blocks = all-map in-block (blocks-right profile proper root right);
+          in-payments = all-map (λ p c. record { amount = λ u e. amount-money (text-of u) (amount-of-payment p c u e) }) (payments-right profile proper root right);
+        }
+
+    -- the amounts of the payments lie within row 42's limits
+    pub small-amounts : All (λ (p : Payment). (u : Element) → follow (41 ∷ 42 ∷ []) (p .own) ≡ some u → cents (text-of u) ≤ 99999999999) (payments root)
+    small-amounts = all-map (λ p c u e. amount-small (text-of u) (amount-of-payment p c u e)) (payments-right profile proper root right)

@@ -5,7 +5,7 @@ use mathlib.Core.Option.{Option, none, some}
 use mathlib.Core.Path.{_≡_}
 use lib.ListN.{length}
 use Rattle.paper.specs.Form.{Element}
-use Rattle.paper.specs.Rows.{rows}
+use Rattle.paper.specs.Rows.{Profile}
 use Rattle.paper.specs.Payments.{blocks, payments, total}
 use Rattle.paper.specs.Refusals.{Refusal, refused-as, accepted-with, outcome-alone, values-refusal, usage-refusal, ids-refusal, total-refusal, counts-refusal, _or-else_}
 use Rattle.paper.specs.Accepted.{All}
@@ -32,16 +32,16 @@ pub record Placed (s tree order : List ℕ) (root : Element) (b p c : ℕ) : Typ
 abbrev pub from-total : Element → Option Refusal
 from-total root = total-refusal root or-else counts-refusal root
 
-abbrev pub from-values : Element → Option Refusal
-from-values root = values-refusal rows root or-else usage-refusal root or-else ids-refusal root or-else from-total root
+abbrev pub from-values : Profile → Element → Option Refusal
+from-values profile root = values-refusal profile root or-else usage-refusal root or-else ids-refusal root or-else from-total root
 
 -- the stages over the tree from one on, as the verdict says them
 pub data Passes (s tree order : List ℕ) (root : Element) (refusal : Option Refusal) : Verdict → Type 0 where
   refuses : {f : Fault} → refusal ≡ some (refusal-of f) → Passes s tree order root refusal (Refused f)
   accepts : {b p c : ℕ} → refusal ≡ none → Placed s tree order root b p c → Passes s tree order root refusal (Accepted b p c)
 
--- The outcome on a message, where no table is lent.
-pub data Decided (s tree order : List ℕ) : Verdict → Type 0 where
-  decided-refused : {f : Fault} → outcome-alone rows s ≡ refused-as (refusal-of f) → Decided s tree order (Refused f)
-  decided-accepted : {root : Element} {b p c : ℕ} → length s ≤ 32768 → outcome-alone rows s ≡ accepted-with root → LaidAt s tree 0 root
-      → Placed s tree order root b p c → Decided s tree order (Accepted b p c)
+-- The outcome on a message, in a profile, where no table is lent.
+pub data Decided (profile : Profile) (s tree order : List ℕ) : Verdict → Type 0 where
+  decided-refused : {f : Fault} → outcome-alone profile s ≡ refused-as (refusal-of f) → Decided profile s tree order (Refused f)
+  decided-accepted : {root : Element} {b p c : ℕ} → length s ≤ 32768 → outcome-alone profile s ≡ accepted-with root → LaidAt s tree 0 root
+      → Placed s tree order root b p c → Decided profile s tree order (Accepted b p c)

@@ -2,6 +2,7 @@
 use form::Form;
 use paper::Fault;
 use paper::Finding;
+use paper::Profile;
 use paper::Verdict;
 use rule_limits::Limits;
 use rule_limits::Order;
@@ -13,19 +14,19 @@ ghost use mathlib.Core.Option.{none};
 ghost use Prim.Native.Nat.{_≤_, _<_};
 ghost use lib.ListN.{length};
 ghost use Rattle.paper.specs.Form.{Element};
-ghost use Rattle.paper.specs.Rows.{rows};
 ghost use Rattle.paper.specs.Payments.{blocks as all-blocks, payments as all-payments};
 ghost use Rattle.paper.specs.Refusals.{tree-refusal, rows-refusal, values-refusal};
-ghost use Rattle.paper.specs.Answers.{refusal-of, refusal-found};
+ghost use Rattle.paper.specs.Answers.{profile-named, refusal-of, refusal-found};
+ghost use Rattle.paper.specs.declared.Profile as named;
 ghost use Rattle.tree.specs.Laid.{LaidAt};
 ghost use Rattle.rule_limits.specs.Ordered.{Ordered};
 ghost use Rattle.verdict_stages.specs.Decided.{from-total, from-values, Passes, Decided};
 
 // 21, then 12 and 13.
 fn sums(s: &[u8], tree: &Tree, order: &Order, blocks: usize, payments: usize) -> Verdict
-    ensures { λ r. ⌜ ((root : Element) → LaidAt (now (s .entry)) (now (tree .entry)) 0 root
+    ensures { λ r. ⌜ ((p : named.Profile) (root : Element) → LaidAt (now (s .entry)) (now (tree .entry)) 0 root
         → Ordered (now (s .entry)) (now (tree .entry)) (now (order .entry)) root → blocks ≡ length (all-blocks root) → payments ≡ length (all-payments root)
-        → payments ≤ 64 → values-refusal rows root ≡ none → blocks ≤ 16
+        → payments ≤ 64 → values-refusal (profile-named p) root ≡ none → blocks ≤ 16
         → Passes (now (s .entry)) (now (tree .entry)) (now (order .entry)) root (from-total root) r) ⌝ }
 {
     let total = rule_totals::total_refusal(s, tree, order, payments);
@@ -54,9 +55,9 @@ fn judged(
     payments: usize,
     values: Finding,
 ) -> Verdict
-    ensures { λ r. ⌜ ((root : Element) → LaidAt (now (s .entry)) (now (tree .entry)) 0 root → refusal-found values ≡ values-refusal rows root
+    ensures { λ r. ⌜ ((p : named.Profile) (root : Element) → LaidAt (now (s .entry)) (now (tree .entry)) 0 root → refusal-found values ≡ values-refusal (profile-named p) root
         → Ordered (now (s .entry)) (now (tree .entry)) (now (order .entry)) root → blocks ≡ length (all-blocks root) → payments ≡ length (all-payments root)
-        → payments ≤ 64 → blocks ≤ 16 → Passes (now (s .entry)) (now (tree .entry)) (now (order .entry)) root (from-values root) r) ⌝ }
+        → payments ≤ 64 → blocks ≤ 16 → Passes (now (s .entry)) (now (tree .entry)) (now (order .entry)) root (from-values (profile-named p) root) r) ⌝ }
 {
     if let Finding::Refused(fault) = values {
         return Verdict::Refused(fault);
@@ -74,9 +75,9 @@ fn judged(
 
 // 5, and what follows.
 fn limited(s: &[u8], tree: &Tree, order: &mut Order, values: Finding) -> Verdict
-    ensures { λ r. ⌜ ((root : Element) → LaidAt (now (s .entry)) (now (tree .entry)) 0 root → 208 ≤ length (now (order .entry))
-        → rows-refusal rows root ≡ none → refusal-found values ≡ values-refusal rows root
-        → Passes (now (s .entry)) (now (tree .entry)) (now (order .exit)) root (tree-refusal rows root) r) ⌝ }
+    ensures { λ r. ⌜ ((p : named.Profile) (root : Element) → LaidAt (now (s .entry)) (now (tree .entry)) 0 root → 208 ≤ length (now (order .entry))
+        → rows-refusal (profile-named p) root ≡ none → refusal-found values ≡ values-refusal (profile-named p) root
+        → Passes (now (s .entry)) (now (tree .entry)) (now (order .exit)) root (tree-refusal (profile-named p) root) r) ⌝ }
 {
     let limits = rule_limits::limits_refusal(tree, order);
     match limits {
@@ -95,18 +96,18 @@ fn of_rows(fault: Fault) -> bool
 
 // 3 and 4, and what follows. The walk for 6 to 8 finds those of 3 and 4 as well. What it finds of 6 to 8 waits until another walk has found none of 3 and 4,
 // which come first wherever they stand.
-fn stages(s: &[u8], tree: &Tree, order: &mut Order) -> Verdict
+fn stages(profile: Profile, s: &[u8], tree: &Tree, order: &mut Order) -> Verdict
     ensures { λ r. ⌜ ((root : Element) → LaidAt (now (s .entry)) (now (tree .entry)) 0 root → 208 ≤ length (now (order .entry))
-        → Passes (now (s .entry)) (now (tree .entry)) (now (order .exit)) root (tree-refusal rows root) r) ⌝ }
+        → Passes (now (s .entry)) (now (tree .entry)) (now (order .exit)) root (tree-refusal (profile-named profile) root) r) ⌝ }
 {
-    let values = rows::rows_refusal(s, tree, true);
+    let values = rows::rows_refusal(profile, s, tree, true);
     match values {
         Finding::Nothing => limited(s, tree, order, Finding::Nothing),
         Finding::Refused(fault) => {
             if of_rows(fault) {
                 return Verdict::Refused(fault);
             }
-            let shape = rows::rows_refusal(s, tree, false);
+            let shape = rows::rows_refusal(profile, s, tree, false);
             if let Finding::Refused(first) = shape {
                 return Verdict::Refused(first);
             }
@@ -115,10 +116,11 @@ fn stages(s: &[u8], tree: &Tree, order: &mut Order) -> Verdict
     }
 }
 
-// What comes of a message where no table is lent: 1, 2, and what follows. The two buffers are lent to work in: the tree is laid out in one, the order of
+// What comes of a message, in a profile, where no table is lent: 1, 2, and what follows. The two buffers are lent to work in: the tree is laid out in one, the order of
 // payments in the other.
-pub fn outcome(s: &[u8], tree: &mut Tree, order: &mut Order) -> Verdict
-    ensures { λ r. ⌜ (28200 ≤ length (now (tree .entry)) → 208 ≤ length (now (order .entry)) → Decided (now (s .entry)) (now (tree .exit)) (now (order .exit)) r) ⌝ }
+pub fn outcome(profile: Profile, s: &[u8], tree: &mut Tree, order: &mut Order) -> Verdict
+    ensures { λ r. ⌜ (28200 ≤ length (now (tree .entry)) → 208 ≤ length (now (order .entry))
+        → Decided (profile-named profile) (now (s .entry)) (now (tree .exit)) (now (order .exit)) r) ⌝ }
 {
     if paper::LARGEST_MESSAGE < s.len() {
         return Verdict::Refused(Fault::MessageTooLong);
@@ -127,5 +129,5 @@ pub fn outcome(s: &[u8], tree: &mut Tree, order: &mut Order) -> Verdict
     if let Form::RefusedAt(offset) = form {
         return Verdict::Refused(Fault::NotOfTheForm { offset });
     }
-    stages(s, tree, order)
+    stages(profile, s, tree, order)
 }

@@ -64,6 +64,15 @@ date-requires c κs = search needs
 date-and-time-requires : tie.Need-date-and-time-requires
 date-and-time-requires c κs = search needs
 
+slice-aggregate-same-4 : tie.Need-slice-aggregate-same-4
+slice-aggregate-same-4 c = search needs
+
+same-requires-4 : tie.Need-same-requires-4
+same-requires-4 c κs = search needs
+
+date-time-zone-requires : tie.Need-date-time-zone-requires
+date-time-zone-requires c κs = search needs
+
 count-requires : tie.Need-count-requires
 count-requires c κs = search needs
 
@@ -131,27 +140,35 @@ unfolding right-for among
 returns-12 c = rw (c .before .match .keys12) (c .date-and-time .ensures)
 
 returns-13 : tie.Need-returns-13
-unfolding right-for among
-returns-13 c = ⊎-elim (λ e. rw e (c .count .ensures)) (λ e. rw e (c .count .ensures)) (c .before .match .keys13)
+unfolding right-for among bytes
+returns-13 c = rw (c .before .before .match .keys13) (c .same4 .ensures)
 
 returns-14 : tie.Need-returns-14
 unfolding right-for among
-returns-14 c = ⊎-elim (λ e. rw e (c .money .ensures)) (λ e. rw e (c .money .ensures)) (c .before .match .keys14)
+returns-14 c = rw (c .before .match .keys14) (c .date-time-zone .ensures)
 
 returns-15 : tie.Need-returns-15
 unfolding right-for among
-returns-15 c = rw (c .before .match .keys15) (c .amount-in .ensures)
+returns-15 c = ⊎-elim (λ e. rw e (c .count .ensures)) (λ e. rw e (c .count .ensures)) (c .before .match .keys15)
 
 returns-16 : tie.Need-returns-16
 unfolding right-for among
-returns-16 c = rw (c .before .match .keys16) (c .bic .ensures)
+returns-16 c = ⊎-elim (λ e. rw e (c .money .ensures)) (λ e. rw e (c .money .ensures)) (c .before .match .keys16)
 
 returns-17 : tie.Need-returns-17
 unfolding right-for among
-returns-17 c = rw (c .before .match .keys17) (c .iban .ensures)
+returns-17 c = rw (c .before .match .keys17) (c .amount-in .ensures)
 
 returns-18 : tie.Need-returns-18
-returns-18 c = c .is-free .ensures ∙ sym (free _ _ _ _ (λ e. c .before .match .rest .0 .0 .0 .0 .0 .0 .0 .0 .0 .0 .0 .0 .0 .0 .0 .0 .1 (inl e)) (λ e. c .before .match .rest .0 .0 .0 .0 .0 .0 .0 .0 .0 .0 .0 .0 .0 .0 .0 .0 .1 (inr e)) (c .before .match .rest .0 .0 .0 .0 .0 .0 .0 .0 .0 .0 .0 .0 .0 .0 .0 .1) (c .before .match .rest .0 .0 .0 .0 .0 .0 .0 .0 .0 .0 .0 .0 .0 .0 .1) (c .before .match .rest .0 .0 .0 .0 .0 .0 .0 .0 .0 .0 .0 .0 .0 .1) (c .before .match .rest .0 .0 .0 .0 .0 .0 .0 .0 .0 .0 .0 .0 .1) (c .before .match .rest .0 .0 .0 .0 .0 .0 .0 .0 .0 .0 .0 .1) (c .before .match .rest .0 .0 .0 .0 .0 .0 .0 .0 .0 .0 .1) (c .before .match .rest .0 .0 .0 .0 .0 .0 .0 .0 .0 .1) (c .before .match .rest .0 .0 .0 .0 .0 .0 .0 .0 .1) (c .before .match .rest .0 .0 .0 .0 .0 .0 .0 .1) (c .before .match .rest .0 .0 .0 .0 .0 .0 .1) (c .before .match .rest .0 .0 .0 .0 .0 .1) (λ e. c .before .match .rest .0 .0 .0 .0 .1 (inl e)) (λ e. c .before .match .rest .0 .0 .0 .0 .1 (inr e)) (λ e. c .before .match .rest .0 .0 .0 .1 (inl e)) (λ e. c .before .match .rest .0 .0 .0 .1 (inr e)) (c .before .match .rest .0 .0 .1) (c .before .match .rest .0 .1) (c .before .match .rest .1))
+unfolding right-for among
+returns-18 c = rw (c .before .match .keys18) (c .bic .ensures)
+
+returns-19 : tie.Need-returns-19
+unfolding right-for among
+returns-19 c = rw (c .before .match .keys19) (c .iban .ensures)
+
+returns-20 : tie.Need-returns-20
+returns-20 c = c .is-free .ensures ∙ sym (free _ _ _ _ (λ e. c .before .match .rest .0 .0 .0 .0 .0 .0 .0 .0 .0 .0 .0 .0 .0 .0 .0 .0 .0 .0 .1 (inl e)) (λ e. c .before .match .rest .0 .0 .0 .0 .0 .0 .0 .0 .0 .0 .0 .0 .0 .0 .0 .0 .0 .0 .1 (inr e)) (c .before .match .rest .0 .0 .0 .0 .0 .0 .0 .0 .0 .0 .0 .0 .0 .0 .0 .0 .0 .1) (c .before .match .rest .0 .0 .0 .0 .0 .0 .0 .0 .0 .0 .0 .0 .0 .0 .0 .0 .1) (c .before .match .rest .0 .0 .0 .0 .0 .0 .0 .0 .0 .0 .0 .0 .0 .0 .0 .1) (c .before .match .rest .0 .0 .0 .0 .0 .0 .0 .0 .0 .0 .0 .0 .0 .0 .1) (c .before .match .rest .0 .0 .0 .0 .0 .0 .0 .0 .0 .0 .0 .0 .0 .1) (c .before .match .rest .0 .0 .0 .0 .0 .0 .0 .0 .0 .0 .0 .0 .1) (c .before .match .rest .0 .0 .0 .0 .0 .0 .0 .0 .0 .0 .0 .1) (c .before .match .rest .0 .0 .0 .0 .0 .0 .0 .0 .0 .0 .1) (c .before .match .rest .0 .0 .0 .0 .0 .0 .0 .0 .0 .1) (c .before .match .rest .0 .0 .0 .0 .0 .0 .0 .0 .1) (c .before .match .rest .0 .0 .0 .0 .0 .0 .0 .1) (c .before .match .rest .0 .0 .0 .0 .0 .0 .1) (c .before .match .rest .0 .0 .0 .0 .0 .1) (λ e. c .before .match .rest .0 .0 .0 .0 .1 (inl e)) (λ e. c .before .match .rest .0 .0 .0 .0 .1 (inr e)) (λ e. c .before .match .rest .0 .0 .0 .1 (inl e)) (λ e. c .before .match .rest .0 .0 .0 .1 (inr e)) (c .before .match .rest .0 .0 .1) (c .before .match .rest .0 .1) (c .before .match .rest .1))
 
 pub right-for-spec : {M : Type 1} → statement M
 right-for-spec =
@@ -176,6 +193,9 @@ right-for-spec =
     purpose-requires
     date-requires
     date-and-time-requires
+    slice-aggregate-same-4
+    same-requires-4
+    date-time-zone-requires
     count-requires
     money-requires
     amount-in-requires
@@ -199,4 +219,6 @@ right-for-spec =
     returns-15
     returns-16
     returns-17
-    returns-18)
+    returns-18
+    returns-19
+    returns-20)

@@ -1,7 +1,7 @@
 use mathlib.Core.List.{[], _∷_}
 use mathlib.Core.Path.{refl}
 use Rattle.paper.specs.Bytes.{every}
-use Rattle.form_names.specs.Names.{is-row}
+use Rattle.form_names.specs.Names.{is-sought}
 use Rattle.tree_routes.specs.Finds.{rows-in}
 use Rattle.move_alike.proofs.Alike.{in-payment-found}
 use borrow.Author.Needs.{needs}
@@ -18,7 +18,7 @@ follow-requires : tie.Need-follow-requires
 follow-requires c κs = search needs
 
 returns : tie.Need-returns
-unfolding rows-in every is-row
+unfolding rows-in every is-sought
 returns c = λ s p b. in-payment-found 48 (49 ∷ []) p (c .follow .ensures s _ refl (c .before .before .first .ensures s _ (p .own) refl b))
 
 pub free-spec : {M : Type 1} → statement M

@@ -111,39 +111,39 @@ part-result-end-8 : tie.Need-part-result-end-8
 part-result-end-8 c = search needs
 
 returns : tie.Need-returns
-returns c = that-part (part-of-20 (now (c .before .before .before .before .before .before .before .before .args .first)) (now (c .before .before .before .before .before .before .before .before .args .second)) (now (c .before .before .before .before .before .before .before .before .args .list)) (c .before .before .before .before .regroup .ensures) (c .before .before .answer .given .1)) (c .field .ensures)
+returns c = that-part (part-of-20 _ (now (c .before .before .before .before .before .before .before .before .args .first)) (now (c .before .before .before .before .before .before .before .before .args .second)) (now (c .before .before .before .before .before .before .before .before .args .list)) (c .before .before .before .before .regroup .ensures) (c .before .before .answer .given .1)) (c .field .ensures)
 
 returns-2 : tie.Need-returns-2
 unfolding NotTwenty
-returns-2 c = empty-part (no-part (now (c .before .before .before .before .before .before .before .args .first)) (now (c .before .before .before .before .before .before .before .args .second)) (now (c .before .before .before .before .before .before .before .args .list)) (c .before .before .before .regroup .ensures) (c .before .enum-told .given .1) tt) (record { bytes-are = refl; in-the-message = refl; at-its-place = search needs })
+returns-2 c = empty-part (no-part _ (now (c .before .before .before .before .before .before .before .args .first)) (now (c .before .before .before .before .before .before .before .args .second)) (now (c .before .before .before .before .before .before .before .args .list)) (c .before .before .before .regroup .ensures) (c .before .enum-told .given .1) tt) (record { bytes-are = refl; in-the-message = refl; at-its-place = search needs })
 
 returns-3 : tie.Need-returns-3
 unfolding NotTwenty
-returns-3 c = empty-part (no-part (now (c .before .before .before .before .before .before .before .args .first)) (now (c .before .before .before .before .before .before .before .args .second)) (now (c .before .before .before .before .before .before .before .args .list)) (c .before .before .before .regroup .ensures) (c .before .enum-told2 .given .1) tt) (record { bytes-are = refl; in-the-message = refl; at-its-place = search needs })
+returns-3 c = empty-part (no-part _ (now (c .before .before .before .before .before .before .before .args .first)) (now (c .before .before .before .before .before .before .before .args .second)) (now (c .before .before .before .before .before .before .before .args .list)) (c .before .before .before .regroup .ensures) (c .before .enum-told2 .given .1) tt) (record { bytes-are = refl; in-the-message = refl; at-its-place = search needs })
 
 returns-4 : tie.Need-returns-4
 unfolding NotTwenty
-returns-4 c = empty-part (no-part (now (c .before .before .before .before .before .before .before .args .first)) (now (c .before .before .before .before .before .before .before .args .second)) (now (c .before .before .before .before .before .before .before .args .list)) (c .before .before .before .regroup .ensures) (c .before .enum-told3 .given .1) tt) (record { bytes-are = refl; in-the-message = refl; at-its-place = search needs })
+returns-4 c = empty-part (no-part _ (now (c .before .before .before .before .before .before .before .args .first)) (now (c .before .before .before .before .before .before .before .args .second)) (now (c .before .before .before .before .before .before .before .args .list)) (c .before .before .before .regroup .ensures) (c .before .enum-told3 .given .1) tt) (record { bytes-are = refl; in-the-message = refl; at-its-place = search needs })
 
 returns-5 : tie.Need-returns-5
 unfolding NotTwenty
-returns-5 c = empty-part (no-part (now (c .before .before .before .before .before .before .before .args .first)) (now (c .before .before .before .before .before .before .before .args .second)) (now (c .before .before .before .before .before .before .before .args .list)) (c .before .before .before .regroup .ensures) (c .before .enum-told4 .given .1) tt) (record { bytes-are = refl; in-the-message = refl; at-its-place = search needs })
+returns-5 c = empty-part (no-part _ (now (c .before .before .before .before .before .before .before .args .first)) (now (c .before .before .before .before .before .before .before .args .second)) (now (c .before .before .before .before .before .before .before .args .list)) (c .before .before .before .regroup .ensures) (c .before .enum-told4 .given .1) tt) (record { bytes-are = refl; in-the-message = refl; at-its-place = search needs })
 
 returns-6 : tie.Need-returns-6
 unfolding NotTwenty
-returns-6 c = empty-part (no-part (now (c .before .before .before .before .before .before .before .args .first)) (now (c .before .before .before .before .before .before .before .args .second)) (now (c .before .before .before .before .before .before .before .args .list)) (c .before .before .before .regroup .ensures) (c .before .enum-told5 .given .1) tt) (record { bytes-are = refl; in-the-message = refl; at-its-place = search needs })
+returns-6 c = empty-part (no-part _ (now (c .before .before .before .before .before .before .before .args .first)) (now (c .before .before .before .before .before .before .before .args .second)) (now (c .before .before .before .before .before .before .before .args .list)) (c .before .before .before .regroup .ensures) (c .before .enum-told5 .given .1) tt) (record { bytes-are = refl; in-the-message = refl; at-its-place = search needs })
 
 returns-7 : tie.Need-returns-7
 unfolding NotTwenty
-returns-7 c = empty-part (no-part (now (c .before .before .before .before .before .before .before .args .first)) (now (c .before .before .before .before .before .before .before .args .second)) (now (c .before .before .before .before .before .before .before .args .list)) (c .before .before .before .regroup .ensures) (c .before .enum-told6 .given .1) tt) (record { bytes-are = refl; in-the-message = refl; at-its-place = search needs })
+returns-7 c = empty-part (no-part _ (now (c .before .before .before .before .before .before .before .args .first)) (now (c .before .before .before .before .before .before .before .args .second)) (now (c .before .before .before .before .before .before .before .args .list)) (c .before .before .before .regroup .ensures) (c .before .enum-told6 .given .1) tt) (record { bytes-are = refl; in-the-message = refl; at-its-place = search needs })
 
 returns-8 : tie.Need-returns-8
 unfolding NotTwenty
-returns-8 c = empty-part (no-part (now (c .before .before .before .before .before .before .before .args .first)) (now (c .before .before .before .before .before .before .before .args .second)) (now (c .before .before .before .before .before .before .before .args .list)) (c .before .before .before .regroup .ensures) (c .before .enum-told7 .given .1) tt) (record { bytes-are = refl; in-the-message = refl; at-its-place = search needs })
+returns-8 c = empty-part (no-part _ (now (c .before .before .before .before .before .before .before .args .first)) (now (c .before .before .before .before .before .before .before .args .second)) (now (c .before .before .before .before .before .before .before .args .list)) (c .before .before .before .regroup .ensures) (c .before .enum-told7 .given .1) tt) (record { bytes-are = refl; in-the-message = refl; at-its-place = search needs })
 
 returns-9 : tie.Need-returns-9
 unfolding NotTwenty
-returns-9 c = empty-part (no-part (now (c .before .before .before .before .before .before .before .args .first)) (now (c .before .before .before .before .before .before .before .args .second)) (now (c .before .before .before .before .before .before .before .args .list)) (c .before .before .before .regroup .ensures) (c .before .enum-told8 .given .1) tt) (record { bytes-are = refl; in-the-message = refl; at-its-place = search needs })
+returns-9 c = empty-part (no-part _ (now (c .before .before .before .before .before .before .before .args .first)) (now (c .before .before .before .before .before .before .before .args .second)) (now (c .before .before .before .before .before .before .before .args .list)) (c .before .before .before .regroup .ensures) (c .before .enum-told8 .given .1) tt) (record { bytes-are = refl; in-the-message = refl; at-its-place = search needs })
 
 pub differing-spec : {M : Type 1} → statement M
 differing-spec =

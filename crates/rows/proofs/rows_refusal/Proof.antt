@@ -16,13 +16,13 @@ text-in-group-requires : tie.Need-text-in-group-requires
 text-in-group-requires c κs = search needs
 
 returns : tie.Need-returns
-returns c = root-of-text _ _ _ _ (c .before .before .before .before .before .before .rows .ensures) (c .before .before .before .before .before .places .ensures) (c .before .before .before .before .cell .ensures) (c .before .before .before .if1 .taken) (c .text-in-group .ensures)
+returns c = root-of-text _ _ _ _ _ (c .before .before .before .before .before .before .rows .ensures) (c .before .before .before .before .before .places .ensures) (c .before .before .before .before .cell .ensures) (c .before .before .before .if1 .taken) (c .text-in-group .ensures)
 
 children-requires : tie.Need-children-requires
 children-requires c κs = search needs
 
 returns-2 : tie.Need-returns-2
-returns-2 c = root-of-elements _ _ _ _ (c .before .before .before .before .before .before .rows .ensures) (c .before .before .before .before .before .places .ensures) (c .before .before .before .before .cell .ensures) (c .before .before .before .if1 .left) (c .children .ensures)
+returns-2 c = root-of-elements _ _ _ _ _ (c .before .before .before .before .before .before .rows .ensures) (c .before .before .before .before .before .places .ensures) (c .before .before .before .before .cell .ensures) (c .before .before .before .if1 .left) (c .children .ensures)
 
 pub rows-refusal-spec : {M : Type 1} → statement M
 rows-refusal-spec =

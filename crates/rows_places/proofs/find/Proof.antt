@@ -2,7 +2,7 @@ use borrow.Author.Needs.{needs}
 use Prim.Native.Nat.{ℕ, _-_, _≤_}
 use mathlib.Core.List.{List}
 use Rattle.paper.specs.Form.{Head}
-use Rattle.paper.specs.Rows.{Row}
+use Rattle.paper.specs.Rows.{Profile}
 use Rattle.tree.specs.Laid.{Entry}
 use Rattle.rows_places.specs.Seek.{ResolvedBetween}
 use Rattle.rows_places.proofs.Places.{SoFar, find-starts, find-goes, find-stops, find-ends}
@@ -10,7 +10,7 @@ use Rattle.rows_places.proofs.find.Statement.{statement}
 use Rattle.rows_places.proofs.find.Tie as tie
 
 abbrev Inv-loop : tie.InvT-loop
-Inv-loop tree rows places i from to p₀ p = (from ≤ p) × ((profile : List Row) (parent : ℕ) (s : List ℕ) (h : Head) (next : ℕ) → ResolvedBetween profile rows places parent from to → Entry s tree i h next → SoFar profile rows places parent (h .name) from to p)
+Inv-loop tree rows places i from to p₀ p = (from ≤ p) × ((profile : Profile) (parent : ℕ) (s : List ℕ) (h : Head) (next : ℕ) → ResolvedBetween profile rows places parent from to → Entry s tree i h next → SoFar profile rows places parent (h .name) from to p)
 
 abbrev μ-loop : tie.MeasureT-loop
 μ-loop tree rows places i from to p₀ p = to - p

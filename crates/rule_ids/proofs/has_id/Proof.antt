@@ -1,7 +1,7 @@
 use mathlib.Core.Path.{refl}
 use denote.Ref.{now}
 use Rattle.paper.specs.Payments.{text-of}
-use Rattle.form_names.specs.Names.{is-row}
+use Rattle.form_names.specs.Names.{is-sought}
 use Rattle.rule_ids.proofs.Repeats.{id-absent, id-there}
 use borrow.Author.Needs.{needs}
 use Rattle.rule_ids.proofs.has_id.Statement.{statement}
@@ -17,7 +17,7 @@ enum-told : tie.Need-enum-told
 enum-told c = search needs
 
 returns : tie.Need-returns
-unfolding is-row
+unfolding is-sought
 returns c = λ b t lb lt. id-absent (text-of t) (c .before .before .child .ensures (now (c .before .before .before .before .args .s)) b refl lb) (c .enum-told .given .1)
 
 text-requires : tie.Need-text-requires
@@ -30,7 +30,7 @@ same-requires : tie.Need-same-requires
 same-requires c κs = search needs
 
 returns-2 : tie.Need-returns-2
-unfolding is-row
+unfolding is-sought
 returns-2 c = λ b t lb lt. id-there (text-of t) (c .before .before .before .before .before .before .child .ensures (now (c .before .before .before .before .before .before .before .before .args .s)) b refl lb) (c .before .before .before .before .found .given .1) (c .before .before .text .ensures t lt) (c .before .text2 .ensures) (c .same .ensures)
 
 pub has-id-spec : {M : Type 1} → statement M

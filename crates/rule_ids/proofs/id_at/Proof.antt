@@ -6,7 +6,7 @@ use denote.Ref.{now}
 use Rattle.paper.specs.Refusals.{among-texts}
 use Rattle.paper.specs.Answers.{refusal-of}
 use Rattle.paper.specs.declared.Fault.the-variants.{BlockIdRepeated}
-use Rattle.form_names.specs.Names.{is-row}
+use Rattle.form_names.specs.Names.{is-sought}
 use Rattle.rule_limits.proofs.First.{stands-at}
 use Rattle.rule_limits.proofs.Refusing.{leaf-absent, leaf-right, leaf-wrong}
 use Rattle.rule_ids.specs.Ids.{with-ids, id-refusal}
@@ -27,7 +27,7 @@ enum-told : tie.Need-enum-told
 enum-told c = search needs
 
 returns : tie.Need-returns
-unfolding is-row id-refusal refusal-of
+unfolding is-sought id-refusal refusal-of
 returns c =
     let s = now (c .before .before .before .before .before .args .s) in
     λ bs b a e n l.
@@ -41,7 +41,7 @@ cell-requires : tie.Need-cell-requires
 cell-requires c κs = search needs
 
 returns-2 : tie.Need-returns-2
-unfolding is-row id-refusal refusal-of
+unfolding is-sought id-refusal refusal-of
 returns-2 c =
     let s = now (c .before .before .before .before .before .before .before .before .before .args .s) in
     λ bs b a e n l.
@@ -50,7 +50,7 @@ returns-2 c =
     (λ t k is. ap not (sym (c .before .before .among-earlier .ensures bs t a e (omega (arith, n)) k) ∙ c .before .if1 .taken)) (c .cell .ensures) refl
 
 returns-3 : tie.Need-returns-3
-unfolding is-row id-refusal refusal-of
+unfolding is-sought id-refusal refusal-of
 returns-3 c =
     let s = now (c .before .before .before .before .before .before .before .before .args .s) in
     λ bs b a e n l.

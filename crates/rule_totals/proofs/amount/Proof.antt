@@ -1,7 +1,7 @@
 use mathlib.Core.Path.{refl}
 use mathlib.Core.List.{[], _∷_}
 use Rattle.paper.specs.Bytes.{every}
-use Rattle.form_names.specs.Names.{is-row}
+use Rattle.form_names.specs.Names.{is-sought}
 use Rattle.tree_routes.specs.Finds.{rows-in}
 use Rattle.rule_totals.proofs.Amounts.{route-found, amount-absent, amount-there}
 use borrow.Author.Needs.{needs}
@@ -24,11 +24,11 @@ cents-at-requires : tie.Need-cents-at-requires
 cents-at-requires c κs = search needs
 
 returns : tie.Need-returns
-unfolding rows-in every is-row
+unfolding rows-in every is-sought
 returns c = λ t l read. amount-absent t (route-found (41 ∷ 42 ∷ []) refl l (c .before .before .follow .ensures _)) (c .enum-told .given .1)
 
 returns-2 : tie.Need-returns-2
-unfolding rows-in every is-row
+unfolding rows-in every is-sought
 returns-2 c = λ t l read. amount-there t (route-found (41 ∷ 42 ∷ []) refl l (c .before .before .before .before .follow .ensures _)) (c .before .before .found .given .1) (c .cents-at .ensures) read
 
 pub amount-spec : {M : Type 1} → statement M

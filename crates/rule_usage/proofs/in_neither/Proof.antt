@@ -1,6 +1,6 @@
 use mathlib.Core.Path.{refl}
 use denote.Ref.{now}
-use Rattle.form_names.specs.Names.{is-row}
+use Rattle.form_names.specs.Names.{is-sought}
 use Rattle.rule_usage.proofs.Laws.{own-there, block-there, neither}
 use borrow.Author.Needs.{needs}
 use Rattle.rule_usage.proofs.in_neither.Statement.{statement}
@@ -13,7 +13,7 @@ enum-told : tie.Need-enum-told
 enum-told c = search needs
 
 returns : tie.Need-returns
-unfolding is-row
+unfolding is-sought
 returns c = λ s p l o b. own-there 16 p (c .before .before .first .ensures s (now (c .before .before .before .args .tree)) (p .own) refl o) (c .enum-told .given .1)
 
 enum-told-2 : tie.Need-enum-told-2
@@ -26,7 +26,7 @@ enum-told-3 : tie.Need-enum-told-3
 enum-told-3 c = search needs
 
 returns-2 : tie.Need-returns-2
-unfolding is-row
+unfolding is-sought
 returns-2 c =
     let mine = c .before .before .before in
     let tree = now (mine .before .before .before .args .tree) in
@@ -41,7 +41,7 @@ cell-requires : tie.Need-cell-requires
 cell-requires c κs = search needs
 
 returns-3 : tie.Need-returns-3
-unfolding is-row
+unfolding is-sought
 returns-3 c =
     let mine = c .before .before .before .before in
     let tree = now (mine .before .before .before .args .tree) in

@@ -1,7 +1,7 @@
 use mathlib.Core.Path.{refl}
 use Rattle.paper.specs.Refusals.{usage-of}
 use Rattle.paper.proofs.Findings.{found-first, found-later}
-use Rattle.form_names.specs.Names.{is-row}
+use Rattle.form_names.specs.Names.{is-sought}
 use borrow.Author.Needs.{needs}
 use Rattle.rule_usage.proofs.in_payment.Statement.{statement}
 use Rattle.rule_usage.proofs.in_payment.Tie as tie
@@ -19,7 +19,7 @@ enum-told-2 : tie.Need-enum-told-2
 enum-told-2 c = search needs
 
 returns : tie.Need-returns
-unfolding usage-of is-row
+unfolding usage-of is-sought
 returns c = λ s p l b. let o = c .before .before .before .before .by-name .ensures s (p .own) l in found-first _ _ _ (c .before .before .in-both .ensures s p refl o b) (c .enum-told2 .given .1)
 
 in-neither-requires : tie.Need-in-neither-requires
@@ -32,7 +32,7 @@ enum-told-4 : tie.Need-enum-told-4
 enum-told-4 c = search needs
 
 returns-2 : tie.Need-returns-2
-unfolding usage-of is-row
+unfolding usage-of is-sought
 returns-2 c =
     let first = c .before .before .before .before in
     λ s p l b.
@@ -50,7 +50,7 @@ enum-told-6 : tie.Need-enum-told-6
 enum-told-6 c = search needs
 
 returns-3 : tie.Need-returns-3
-unfolding usage-of is-row
+unfolding usage-of is-sought
 returns-3 c =
     let second = c .before .before .before .before in
     let first = second .before .before .before .before in
@@ -64,7 +64,7 @@ in-both-requires-3 : tie.Need-in-both-requires-3
 in-both-requires-3 c κs = search needs
 
 returns-4 : tie.Need-returns-4
-unfolding usage-of is-row
+unfolding usage-of is-sought
 returns-4 c =
     let third = c .before .before in
     let second = third .before .before .before .before in

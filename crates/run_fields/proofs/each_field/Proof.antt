@@ -5,10 +5,10 @@ use Rattle.run_fields.proofs.each_field.Statement.{statement}
 use Rattle.run_fields.proofs.each_field.Tie as tie
 
 abbrev Inv-loop : tie.InvT-loop
-Inv-loop name message payment first last field₀ field = Unit {0}
+Inv-loop profile name message payment first last field₀ field = Unit {0}
 
 abbrev μ-loop : tie.MeasureT-loop
-μ-loop name message payment first last field₀ field = last - field
+μ-loop profile name message payment first last field₀ field = last - field
 
 loop-holds : tie.Need-loop-holds Inv-loop μ-loop
 loop-holds c = search needs

@@ -1,4 +1,4 @@
-use Rattle.tree.proofs.Laws.{its-own, row-14, row-15, row-21, row-25, row-33, row-35}
+use Rattle.tree.proofs.Laws.{its-own, row-14, row-15, row-21, row-25, row-33, row-35, sought-row, not-57}
 use Rattle.tree.proofs.name_of.Statement.{statement}
 use Rattle.tree.proofs.name_of.Tie as tie
 
@@ -21,7 +21,9 @@ returns-6 : tie.Need-returns-6
 returns-6 c _ = rw (c .match .keys6) row-35
 
 returns-7 : tie.Need-returns-7
-returns-7 c r = let n = c .match .rest in its-own _ (n .0 .0 .0 .0 .0 .1) (n .0 .0 .0 .0 .1) (n .0 .0 .0 .1) (n .0 .0 .1) (n .0 .1) (n .1) r
+returns-7 c y =
+    let n = c .match .rest in
+    its-own _ (n .0 .0 .0 .0 .0 .1) (n .0 .0 .0 .0 .1) (n .0 .0 .0 .1) (n .0 .0 .1) (n .0 .1) (n .1) (not-57 _ y) (sought-row _ y)
 
 pub name-of-spec : {M : Type 1} → statement M
 name-of-spec =

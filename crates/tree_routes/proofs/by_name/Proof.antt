@@ -25,7 +25,7 @@ add-at : tie.Need-add-at Inv-loop μ-loop
 add-at c = search needs
 
 loop-holds : tie.Need-loop-holds Inv-loop μ-loop
-loop-holds c = (search needs, walk-begins refl (λ n h. getD-replicate 56 n 0 0 h) (c .cell .ensures))
+loop-holds c = (search needs, walk-begins refl (λ n h. getD-replicate 59 n 0 0 h) (c .cell .ensures))
 
 cell-requires-2 : tie.Need-cell-requires-2 Inv-loop μ-loop
 cell-requires-2 c κs = search needs

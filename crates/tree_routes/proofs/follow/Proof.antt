@@ -7,7 +7,7 @@ use mathlib.Core.Path.{_≡_}
 use lib.ListN.{length}
 use Rattle.paper.specs.Bytes.{every}
 use Rattle.paper.specs.Form.{Element}
-use Rattle.form_names.specs.Names.{is-row}
+use Rattle.form_names.specs.Names.{is-sought}
 use Rattle.tree_routes.specs.Finds.{Finds, rows-in}
 use Rattle.tree_routes.proofs.Laws.{Halfway, sets-out, rows-stop, rows-end, arrived, one-row-on}
 use Rattle.tree_routes.proofs.follow.Statement.{statement}
@@ -15,7 +15,7 @@ use Rattle.tree_routes.proofs.follow.Tie as tie
 
 abbrev Inv-loop : tie.InvT-loop
 Inv-loop tree route found₀ k₀ found k =
-    (s : List ℕ) (o : Option Element) → every is-row (rows-in route) ≡ true → Finds s tree o found₀ → Halfway s tree route o found k
+    (s : List ℕ) (o : Option Element) → every is-sought (rows-in route) ≡ true → Finds s tree o found₀ → Halfway s tree route o found k
 
 abbrev μ-loop : tie.MeasureT-loop
 μ-loop tree route found₀ k₀ found k = length route - k

@@ -6,7 +6,7 @@ use mathlib.Core.Path.{_≡_, refl}
 use Rattle.paper.specs.Form.{Elements}
 use Rattle.paper.specs.Rows.{name as name-of-row}
 use Rattle.paper.specs.Payments.{listed}
-use Rattle.form_names.specs.Names.{name-number, is-row}
+use Rattle.form_names.specs.Names.{name-number, is-sought}
 use Rattle.tree.specs.Laid.{LaidAll}
 use Rattle.tree_routes.proofs.Laws.{Left, passed, stands, stuck, none-left}
 use Rattle.tree_routes.proofs.next_named.Statement.{statement}
@@ -14,7 +14,7 @@ use Rattle.tree_routes.proofs.next_named.Tie as tie
 
 abbrev Inv-loop : tie.InvT-loop
 Inv-loop tree i stop name at₀ at =
-    (i ≤ at) × ((s : List ℕ) (row : ℕ) (ts : Elements) → is-row row ≡ true → name ≡ name-number (name-of-row row) → LaidAll s tree ts i stop → Left s tree row (listed ts) at stop)
+    (i ≤ at) × ((s : List ℕ) (row : ℕ) (ts : Elements) → is-sought row ≡ true → name ≡ name-number (name-of-row row) → LaidAll s tree ts i stop → Left s tree row (listed ts) at stop)
 
 abbrev μ-loop : tie.MeasureT-loop
 μ-loop tree i stop name at₀ at = stop - at

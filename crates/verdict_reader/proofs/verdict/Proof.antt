@@ -8,7 +8,7 @@ use Rattle.verdict_reader.proofs.verdict.Statement.{statement}
 use Rattle.verdict_reader.proofs.verdict.Tie as tie
 
 returns : tie.Need-returns
-returns c = too-short (now (c .before .before .before .args .message)) (now (c .before .before .before .args .table)) (c .if1 .taken)
+returns c = too-short _ (now (c .before .before .before .args .message)) (now (c .before .before .before .args .table)) (c .if1 .taken)
 
 outcome-requires : tie.Need-outcome-requires
 outcome-requires c κs = search needs

@@ -1,6 +1,5 @@
 use Rattle.verdict_stages.proofs.InTurn.{rows-refused, rows-refused-first, no-rows-refusal, no-values-refusal, found-as}
 use Rattle.paper_acceptance.proofs.OneWalk.{rows-too}
-use Rattle.paper.specs.Rows.{rows}
 use Rattle.rows.specs.Walk.{refusal-by}
 use borrow.Author.Needs.{needs}
 use Rattle.verdict_stages.proofs.stages.Statement.{statement}
@@ -23,7 +22,7 @@ of-rows-requires c κs = search needs
 
 returns : tie.Need-returns
 unfolding refusal-by
-returns c = λ root l room. rows-refused-first (c .before .before .before .before .before .rows-refusal .ensures root l) (c .before .before .before .values .given .1) (c .before .of-rows .ensures (c .if1 .taken))
+returns c = λ root l room. rows-refused-first _ (c .before .before .before .before .before .rows-refusal .ensures root l) (c .before .before .before .values .given .1) (c .before .of-rows .ensures (c .if1 .taken))
 
 rows-refusal-requires-2 : tie.Need-rows-refusal-requires-2
 rows-refusal-requires-2 c κs = search needs
@@ -33,7 +32,7 @@ enum-known-shape c = search needs
 
 returns-2 : tie.Need-returns-2
 unfolding refusal-by
-returns-2 c = λ root l room. rows-refused (c .before .before .before .rows-refusal2 .ensures root l) (c .before .shape .given .1)
+returns-2 c = λ root l room. rows-refused _ (c .before .before .before .rows-refusal2 .ensures root l) (c .before .shape .given .1)
 
 enum-told-2 : tie.Need-enum-told-2
 enum-told-2 c = search needs
@@ -43,11 +42,11 @@ limited-requires-2 c κs = search needs
 
 returns-3 : tie.Need-returns-3
 unfolding refusal-by
-returns-3 c = λ root l room. c .limited .ensures root l room (rows-too rows root (no-values-refusal root (c .before .before .before .before .rows-refusal .ensures root l) (c .before .before .enum-told .given .1))) (found-as (c .before .before .before .before .rows-refusal .ensures root l) (c .before .before .enum-told .given .1))
+returns-3 c = λ root l room. c .limited .ensures _ root l room (rows-too _ root (no-values-refusal _ root (c .before .before .before .before .rows-refusal .ensures root l) (c .before .before .enum-told .given .1))) (found-as (c .before .before .before .before .rows-refusal .ensures root l) (c .before .before .enum-told .given .1))
 
 returns-4 : tie.Need-returns-4
 unfolding refusal-by
-returns-4 c = λ root l room. c .limited2 .ensures root l room (no-rows-refusal root (c .before .before .before .before .rows-refusal2 .ensures root l) (c .before .before .enum-told2 .given .1)) (found-as (c .before .before .before .before .before .before .before .before .before .before .rows-refusal .ensures root l) (c .before .before .before .before .before .before .before .before .values .given .1))
+returns-4 c = λ root l room. c .limited2 .ensures _ root l room (no-rows-refusal _ root (c .before .before .before .before .rows-refusal2 .ensures root l) (c .before .before .enum-told2 .given .1)) (found-as (c .before .before .before .before .before .before .before .before .before .before .rows-refusal .ensures root l) (c .before .before .before .before .before .before .before .before .values .given .1))
 
 pub stages-spec : {M : Type 1} → statement M
 stages-spec =

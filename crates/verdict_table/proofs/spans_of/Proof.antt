@@ -1,7 +1,7 @@
 use borrow.Author.Needs.{needs}
 use mathlib.Core.Path.{refl}
 use Rattle.paper.specs.Fields.{plain, or-means, amount-field, remittance, fields, field-element}
-use Rattle.form_names.specs.Names.{is-row}
+use Rattle.form_names.specs.Names.{is-sought}
 use Rattle.verdict_table.proofs.Laws.{kind-found}
 use Rattle.verdict_table.proofs.spans_of.Statement.{statement}
 use Rattle.verdict_table.proofs.spans_of.Tie as tie
@@ -49,7 +49,7 @@ span-of-requires-6 : tie.Need-span-of-requires-6
 span-of-requires-6 c κs = search needs
 
 returns : tie.Need-returns
-unfolding field-element fields plain or-means amount-field remittance is-row
+unfolding field-element fields plain or-means amount-field remittance is-sought
 returns c = λ s p e o b.
     let name = c .before .before .before .before .before .before .before .before in
     let kind = c .before .before in

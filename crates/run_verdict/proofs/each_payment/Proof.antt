@@ -1,7 +1,7 @@
 use Prim.Native.Nat.{_≤_, _-_}
 use borrow.Author.Needs.{needs}
-use Rattle.verdict.proofs.each_payment.Statement.{statement}
-use Rattle.verdict.proofs.each_payment.Tie as tie
+use Rattle.run_verdict.proofs.each_payment.Statement.{statement}
+use Rattle.run_verdict.proofs.each_payment.Tie as tie
 
 abbrev Inv-loop : tie.InvT-loop
 Inv-loop message table payments i₀ i = i ≤ payments
