@@ -1,14 +1,16 @@
 /*
  * A payment host in small: reads a message and shows its payments, or checks a regrouping before it is sent.
  *
- *     host MESSAGE               prints the verdict, and each payment as the table gives it
- *     host FIRST SECOND LIST     prints whether the second message regroups the first by that list
+ *     host [--instant] MESSAGE               prints the verdict, and each payment as the table gives it
+ *     host [--instant] FIRST SECOND LIST     prints whether the second message regroups the first by that list
  *
+ * Messages are read in the first profile, with --instant in the instant one; the first line says in which.
  * Exits with 0 if accepted, 1 if refused, 2 if a file can't be read or the arguments are wrong.
  */
 #include <glowenzo.h>
 #include <inttypes.h>
 #include <stdio.h>
+#include <string.h>
 
 /* One byte more than the longest list, which is longer than the longest message: a longer file is still refused for what it is. */
 #define ROOM 131078
@@ -62,6 +64,11 @@ static int read_file(const char *path, struct file *file)
     return !failed;
 }
 
+static void show_profile(uint64_t profile)
+{
+    printf("profile: %s\n", profile == GLOWENZO_INSTANT_PROFILE ? "instant" : "first");
+}
+
 static void refused(uint64_t number, uint64_t element, uint64_t offset)
 {
     printf("refused %" PRIu64 ": %s, element %" PRIu64 ", offset %" PRIu64 "\n", number, reason(number), element, offset);
@@ -89,13 +96,14 @@ static void show_payment(const struct file *message, const uint8_t *numbers, uin
     show_part("type", message, numbers, GLOWENZO_PAYMENT_TYPE);
 }
 
-static int verdict(const char *path)
+static int verdict(uint64_t profile, const char *path)
 {
     static struct file message;
     static uint8_t table[GLOWENZO_TABLE_BYTES];
     if (!read_file(path, &message))
         return 2;
-    glowenzo_verdict_t v = glowenzo_verdict(message.bytes, message.length, table, sizeof table);
+    show_profile(profile);
+    glowenzo_verdict_t v = glowenzo_verdict(profile, message.bytes, message.length, table, sizeof table);
     if (v.number != GLOWENZO_ACCEPTED) {
         refused(v.number, v.element, v.offset);
         return 1;
@@ -106,12 +114,13 @@ static int verdict(const char *path)
     return 0;
 }
 
-static int regroup(const char *first_path, const char *second_path, const char *list_path)
+static int regroup(uint64_t profile, const char *first_path, const char *second_path, const char *list_path)
 {
     static struct file first, second, list;
     if (!read_file(first_path, &first) || !read_file(second_path, &second) || !read_file(list_path, &list))
         return 2;
-    glowenzo_regroup_t r = glowenzo_regroup(first.bytes, first.length, second.bytes, second.length, list.bytes, list.length);
+    show_profile(profile);
+    glowenzo_regroup_t r = glowenzo_regroup(profile, first.bytes, first.length, second.bytes, second.length, list.bytes, list.length);
     if (r.number == GLOWENZO_ACCEPTED) {
         puts("accepted: the second message regroups the first");
         return 0;
@@ -127,10 +136,16 @@ static int regroup(const char *first_path, const char *second_path, const char *
 
 int main(int argc, char **argv)
 {
+    uint64_t profile = GLOWENZO_FIRST_PROFILE;
+    if (argc > 1 && strcmp(argv[1], "--instant") == 0) {
+        profile = GLOWENZO_INSTANT_PROFILE;
+        argc--;
+        argv++;
+    }
     if (argc == 2)
-        return verdict(argv[1]);
+        return verdict(profile, argv[1]);
     if (argc == 4)
-        return regroup(argv[1], argv[2], argv[3]);
-    fprintf(stderr, "host MESSAGE\nhost FIRST SECOND LIST\n");
+        return regroup(profile, argv[1], argv[2], argv[3]);
+    fprintf(stderr, "host [--instant] MESSAGE\nhost [--instant] FIRST SECOND LIST\n");
     return 2;
 }

@@ -1,5 +1,5 @@
 /*
- * Glowenzo for C: the verdict on one pain.001.001.09 message, and whether one message regroups another.
+ * Glowenzo for C: the verdict on one pain.001.001.09 message, and whether one message regroups another, in the first profile or in the instant one.
  *
  * Link with the archive that `rt staticlib host` writes (target/staticlib/libhost.a, x86-64 Linux).
  *
@@ -8,7 +8,7 @@
  * The table must not overlap the message. Lent parts need no alignment. A part of length 0 is empty whatever its pointer is, also a null pointer; a null
  * pointer with any other length is the caller's error.
  *
- * Stack. A verdict takes about 120 KB of stack and a regrouping about 230 KB, whatever the message. The archive calls the C library's memset, and nothing else.
+ * Stack. A verdict takes about 72 KB of stack and a regrouping about 125 KB, whatever the message. The archive calls the C library's memset, and nothing else.
  */
 #ifndef GLOWENZO_H
 #define GLOWENZO_H
@@ -18,6 +18,15 @@
 #ifdef __cplusplus
 extern "C" {
 #endif
+
+/*
+ * The profile that a message is read in (docs/RULES.md, 3): which rows there are. The caller names it by its number in each call; 1 is the instant one, any
+ * other number the first.
+ */
+enum {
+    GLOWENZO_FIRST_PROFILE = 0,
+    GLOWENZO_INSTANT_PROFILE = 1         /* with a local instrument (rows 56, 57), and a date or a date and time (row 58) */
+};
 
 /* Why a message is refused: its number (docs/RULES.md, 6). `element` is a row of section 3 there, 0 where none is named; `offset` is a byte of the message. */
 enum {
@@ -84,7 +93,8 @@ enum {
     GLOWENZO_CREDITOR_IBAN = 3,
     GLOWENZO_CREDITOR_NAME = 5,
     GLOWENZO_ULTIMATE_DEBTOR = 7,        /* name, the payment's or its block's; 0, 0 where there is none */
-    GLOWENZO_PAYMENT_TYPE = 9,           /* all that stands inside row 16 (PmtTpInf), the payment's or its block's */
+    GLOWENZO_PAYMENT_TYPE = 9,           /* all that stands inside row 16 (PmtTpInf), the payment's or its block's; in the instant profile
+                                            its local instrument too */
     GLOWENZO_DEBTOR_IBAN = 11,           /* its block's */
     GLOWENZO_EUROS = 13,                 /* whole euros of the amount */
     GLOWENZO_CENTS = 14,                 /* and cents, 0 to 99 */
@@ -98,15 +108,16 @@ static inline uint32_t glowenzo_number(const uint8_t *table, uint64_t n)
     return (uint32_t)at[0] << 24 | (uint32_t)at[1] << 16 | (uint32_t)at[2] << 8 | (uint32_t)at[3];
 }
 
-/* The verdict on a message. table_len counts bytes. */
-glowenzo_verdict_t glowenzo_verdict(const uint8_t *message, uint64_t message_len, uint8_t *table, uint64_t table_len);
+/* The verdict on a message, read in that profile. table_len counts bytes. */
+glowenzo_verdict_t glowenzo_verdict(uint64_t profile, const uint8_t *message, uint64_t message_len, uint8_t *table, uint64_t table_len);
 
 /*
- * Whether the second message is the first with its payments regrouped as the list says. The list: the bytes RGL, 16-bit version 1, 16-bit count, then that
- * many 16-bit ordinals, high byte first; ordinal k names the payment of the first message, from 0, that stands k-th in the second. Nothing is written.
+ * Whether the second message is the first with its payments regrouped as the list says, both read in that one profile. The list: the bytes RGL, 16-bit
+ * version 1, 16-bit count, then that many 16-bit ordinals, high byte first; ordinal k names the payment of the first message, from 0, that stands k-th in the
+ * second. Nothing is written.
  */
-glowenzo_regroup_t glowenzo_regroup(const uint8_t *first, uint64_t first_len, const uint8_t *second, uint64_t second_len, const uint8_t *list,
-                                    uint64_t list_len);
+glowenzo_regroup_t glowenzo_regroup(uint64_t profile, const uint8_t *first, uint64_t first_len, const uint8_t *second, uint64_t second_len,
+                                    const uint8_t *list, uint64_t list_len);
 
 #ifdef __cplusplus
 }
