@@ -11,7 +11,9 @@ use borrow.Author.Tests.{eqb-true, eq-eqb}
 use lib.ListN.{length, length-append}
 use lib.Dec.{eqb}
 use Rattle.paper.specs.Bytes.{Every, every-none, every-more, every, same, each}
+use Rattle.paper.specs.Form.{Element}
 use Rattle.paper.specs.Values.{among}
+use Rattle.paper.specs.Payments.{either-of}
 use Rattle.paper.specs.Refusals.{Refusal}
 use Rattle.paper.specs.Accepted.{All, all-none, all-more}
 
@@ -115,3 +117,9 @@ pub each-length : {A : Type 0} (f : A → List ℕ) (n : ℕ) → ((a : A) → l
 unfolding each
 each-length f n h [] = omega arith
 each-length f n h (a ∷ l) = length-append (f a) (each f l) ∙ rw (mul-suc n (length l)) (omega (arith, h a, each-length f n h l))
+
+-- of two that may be absent, where the second is
+pub either-none : (o : Option Element) → either-of o none ≡ o
+unfolding either-of
+either-none none = refl
+either-none (some t) = refl

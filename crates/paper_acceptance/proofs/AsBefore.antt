@@ -15,7 +15,7 @@ use Rattle.paper.specs.Payments.{Payment, child, follow, payments, in-block, ei
 use Rattle.paper.specs.Refusals.{rows-at, accepted-with, outcome-alone}
 use Rattle.paper.specs.Fields.{absent, text-value, plain, or-means, amount-field, remittance, fields, values-of, field-element}
 use Rattle.paper.specs.Accepted.{All, AnyText, RowsKept}
-use Rattle.paper.proofs.Laws.{all-map}
+use Rattle.paper.proofs.Laws.{all-map, either-none}
 use Rattle.paper_acceptance.proofs.Arranged.{rows-of}
 use Rattle.paper_acceptance.proofs.Apart.{unlike}
 use Rattle.paper_acceptance.proofs.Routes.{takes, lacks, child-absent, step}
@@ -48,11 +48,6 @@ no-time b c = go (child 22 b) refl
     go : (o : Option Element) → child 22 b ≡ o → _≡_ {A = Option Element} (elim o [ none ↦ none | some u ↦ elim (child 58 u) [ none ↦ none | some v ↦ some v ] ]) none
     go none e = refl
     go (some u) e = rw (none-there u e)
-
-either-none : (o : Option Element) → either-of o none ≡ o
-unfolding either-of
-either-none none = refl
-either-none (some t) = refl
 
 pub record DateAsBefore (p : Payment) : Type 0 where
   pub element-is : field-element 4 p ≡ in-block (22 ∷ 23 ∷ []) p

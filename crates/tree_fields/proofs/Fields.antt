@@ -12,7 +12,7 @@ use Rattle.paper.specs.Bytes.{every}
 use Rattle.paper.specs.Form.{Element}
 use Rattle.paper.specs.Payments.{Payment, child, follow, in-payment, in-block, inherited, either-of}
 use Rattle.paper.specs.Fields.{Field, plain, or-means, amount-field, remittance, fields, field-element}
-use Rattle.paper.proofs.Laws.{both-left, both-right}
+use Rattle.paper.proofs.Laws.{both-left, both-right, either-none}
 use Rattle.form_names.specs.Names.{is-sought}
 use Rattle.form_names.proofs.Laws.{each-number, each-says}
 use Rattle.tree_routes.specs.declared.Found.{Found}
@@ -78,11 +78,6 @@ module _ {table : List (List ℕ)} (e : RoutesAre table) (p : Payment) {s tree :
   past-lines h = rw (e, List·getD-eq-default route-table [] h) found-nothing
 
 -- The fields of a payment by the lines of the table, computed.
-either-none : (o : Option Element) → either-of o none ≡ o
-unfolding either-of
-either-none none = refl
-either-none (some t) = refl
-
 all-fields : (p : Payment) → none ∷ map (λ (f : Field). f .element) (fields p) ≡ map (λ (line : List ℕ). at-lines line p) (take 18 route-table)
 unfolding fields plain or-means amount-field remittance route-table at-lines at-line route-of rows-in
 all-fields p = simp either-none
