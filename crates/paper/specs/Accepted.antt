@@ -1,15 +1,15 @@
 -- Acceptance (docs/RULES.md, 5), said without any order of checks. It speaks of a message; that the lent table is long enough is asked beside it.
 use Prim.Native.Nat.{ℕ, _+_, _≤_, _<_, _^_}
 use mathlib.Core.List.{List, [], _∷_, map, List·Memᴰ}
-use mathlib.Core.Option.{Option, some}
+use mathlib.Core.Option.{Option, none, some}
 use mathlib.Core.Bool.{true}
 use mathlib.Core.Path.{_≡_}
 use mathlib.Core.Logic.{_⊎_}
 use lib.ListN.{length}
 use Rattle.paper.specs.Sizes.{largest-message, most-blocks, most-payments}
 use Rattle.paper.specs.Bytes.{value-character, Every}
-use Rattle.paper.specs.Form.{Head, Element, IsMessage}
-use Rattle.paper.specs.Rows.{Row, Profile, row-of, longest-of, Conforms}
+use Rattle.paper.specs.Form.{Head, Element, holding-text, holding-elements, IsMessage}
+use Rattle.paper.specs.Rows.{text, elements, Row, Profile, row-of, longest-of, Conforms}
 use Rattle.paper.specs.Values.{allowed, number, cents}
 use Rattle.paper.specs.Payments.{Payment, text-of, all-of, blocks, header-count, header-sum, block-id, block-count, block-sum, instructed-amount, payments, in-payment, in-block}
 
@@ -36,8 +36,9 @@ pub record Says {A : Type 0} (means : List ℕ → A) (o : Option Element) (a : 
   pub stands-there : o ≡ some leaf
   pub says : means (text-of leaf) ≡ a
 
--- What makes a leaf's text right: for the rows alone, nothing; for the values its length, its characters and its value.
-pub record AnyText (parent : ℕ) (r : Row) (h : Head) (w : List ℕ) : Type 0 where
+-- What makes an element right where it stands: for the rows alone, nothing; for the values, that its row is not withdrawn and that of a leaf the text is right by its length,
+-- its characters and its value. (That a leaf holds text is said by the rows.)
+pub record AnyElement (holder : Option Element) (parent : ℕ) (r : Row) (t : Element) : Type 0 where
 
 pub record RightText (parent : ℕ) (r : Row) (h : Head) (w : List ℕ) : Type 0 where
   pub not-empty : 1 ≤ length w
@@ -45,12 +46,20 @@ pub record RightText (parent : ℕ) (r : Row) (h : Head) (w : List ℕ) : Type 0
   pub characters : Every value-character w
   pub value : allowed parent (r .row) (h .currency) w ≡ true
 
+unfoldable pub RightLeaf : (parent : ℕ) → Row → Element → Type 0
+RightLeaf parent r (holding-text h w) = elim (r .holds) [ text longest ↦ RightText parent r h w | elements places ↦ Unit {0} ]
+RightLeaf parent r (holding-elements h ts) = Unit {0}
+
+pub record RightElement (withdrawn : List ℕ) (holder : Option Element) (parent : ℕ) (r : Row) (t : Element) : Type 0 where
+  pub not-withdrawn : List·Memᴰ (r .row) withdrawn → ⊥
+  pub leaf : RightLeaf parent r t
+
 -- Rows and values: the root conforms to row 1.
 unfoldable pub RowsKept : (profile : Profile) → Element → Type 0
-RowsKept profile root = Conforms profile AnyText root 0 (row-of profile 0 1)
+RowsKept profile root = Conforms profile AnyElement root none 0 (row-of profile 0 1)
 
 unfoldable pub ValuesRight : (profile : Profile) → Element → Type 0
-ValuesRight profile root = Conforms profile RightText root 0 (row-of profile 0 1)
+ValuesRight profile root = Conforms profile (RightElement (profile .withdrawn)) root none 0 (row-of profile 0 1)
 
 -- Limits: so many blocks and payments.
 pub record LimitsKept (root : Element) : Type 0 where

@@ -1,9 +1,9 @@
--- What the code is told and what it answers, in the rules' words. A caller names a profile by a struct of the code, whose part `instant` says which of the two it is. The answers are enums: this
--- gives the rules' number and values for each of their cases.
+-- What the code is told and what it answers, in the rules' words. A caller names a profile by a struct of the code: its part `instant` says which rows, its part `archived` whether
+-- the message is archived. The answers are enums: this gives the rules' number and values for each of their cases.
 use Prim.Native.Nat.{ℕ}
 use mathlib.Core.Option.{Option, none, some}
 use Rattle.paper.specs.declared.Fault.{Fault}
-use Rattle.paper.specs.declared.Fault.the-variants.{TableTooShort, MessageTooLong, NotOfTheForm, NotAllowedThere, Missing, TooMany, EmptyOrTooLong, CharacterNotInTheSet, ValueNotAllowed, InPaymentAndBlock, InNeither, BlockIdRepeated, TotalTooLarge, CountDiffers, SumDiffers}
+use Rattle.paper.specs.declared.Fault.the-variants.{TableTooShort, MessageTooLong, NotOfTheForm, NotAllowedThere, Missing, TooMany, EmptyOrTooLong, CharacterNotInTheSet, ValueNotAllowed, Withdrawn, InPaymentAndBlock, InNeither, BlockIdRepeated, TotalTooLarge, CountDiffers, SumDiffers}
 use Rattle.paper.specs.declared.Finding.{Finding}
 use Rattle.paper.specs.declared.Finding.the-variants as finding
 use Rattle.paper.specs.declared.Verdict.{Verdict}
@@ -12,15 +12,14 @@ use Rattle.paper.specs.declared.Regrouping.{Regrouping}
 use Rattle.paper.specs.declared.Regrouping.the-variants as regrouping
 use Rattle.paper.specs.declared.Profile.{Profile}
 use Rattle.paper.specs.Sizes.{largest-message}
-use Rattle.paper.specs.Bytes.{if_then_else_}
 use Rattle.paper.specs.Rows as rules
-use Rattle.paper.specs.Rows.{first-profile, instant-profile}
+use Rattle.paper.specs.Rows.{profile-by}
 use Rattle.paper.specs.Refusals.{Refusal, MessageAnswer, refused, accepted}
 use Rattle.paper.specs.Regrouping.{RegroupingAnswer, message-refused, answered}
 
 -- The profile of the rules that the caller names.
 unfoldable pub profile-named : Profile → rules.Profile
-profile-named p = if p .instant then instant-profile else first-profile
+profile-named p = profile-by (p .instant) (p .archived)
 
 unfoldable pub numbered : (number element offset : ℕ) → Refusal
 numbered number element offset = record { number = number; element = element; offset = offset }
@@ -35,6 +34,7 @@ refusal-of (TooMany element offset) = numbered 5 element offset
 refusal-of (EmptyOrTooLong element offset) = numbered 6 element offset
 refusal-of (CharacterNotInTheSet element offset) = numbered 7 element offset
 refusal-of (ValueNotAllowed element offset) = numbered 8 element offset
+refusal-of (Withdrawn element offset) = numbered 28 element offset
 refusal-of (InPaymentAndBlock element offset) = numbered 9 element offset
 refusal-of (InNeither offset) = numbered 10 16 offset
 refusal-of (BlockIdRepeated offset) = numbered 11 11 offset

@@ -1,16 +1,17 @@
 -- The payment host calls verdict and regrouping on byte slices (docs/RULES.md, 10).
 use Prim.Native.Nat.{ℕ, _/_, _%_}
 use mathlib.Core.List.{List, [], _∷_}
+use mathlib.Core.Bool.{not}
 use lib.ListN.{length}
 use lib.Dec.{eqb}
-use Rattle.paper.specs.Bytes.{if_then_else_, each}
-use Rattle.paper.specs.Rows.{Profile, first-profile, instant-profile}
+use Rattle.paper.specs.Bytes.{each}
+use Rattle.paper.specs.Rows.{Profile, profile-by}
 use Rattle.paper.specs.Refusals.{Outcome}
 use Rattle.paper.specs.Table.{over, written}
 
--- The profile is a number: 1 is the instant one, any other the first.
-unfoldable pub profile-numbered : ℕ → Profile
-profile-numbered n = if eqb n 1 then instant-profile else first-profile
+-- The profile is a number: 1 is the instant one, any other the first. Whether the message is archived is a number: 0 is a new one, any other an archived one.
+unfoldable pub profile-numbered : (profile archived : ℕ) → Profile
+profile-numbered profile archived = profile-by (eqb profile 1) (not (eqb archived 0))
 
 -- Table numbers as four bytes, high byte first.
 unfoldable pub four-bytes : ℕ → List ℕ

@@ -7,7 +7,7 @@ use mathlib.Core.Path.{_≡_}
 use lib.ListN.{length}
 use Rattle.paper.specs.Sizes.{largest-message, least-table}
 use Rattle.paper.specs.Form.{Element, IsMessage, OfTheForm}
-use Rattle.paper.specs.Rows.{Profile}
+use Rattle.paper.specs.Rows.{Profile, as-new}
 use Rattle.paper.specs.Payments.{Payment, payments}
 use Rattle.paper.specs.Refusals.{Refusal, refused-as, outcome-alone}
 use Rattle.paper.specs.Accepted.{EachWith, Distinct, RowsKept, LimitsKept, ValuesRight, UsageKept, IdsApart, TotalFits, CountsTrue, Accepted}
@@ -27,7 +27,7 @@ numbers for-size = 1 ∷ []
 numbers for-form = 2 ∷ []
 numbers for-rows = 3 ∷ 4 ∷ []
 numbers for-limits = 5 ∷ []
-numbers for-values = 6 ∷ 7 ∷ 8 ∷ []
+numbers for-values = 6 ∷ 7 ∷ 8 ∷ 28 ∷ []
 numbers for-usage = 9 ∷ 10 ∷ []
 numbers for-ids = 11 ∷ []
 numbers for-total = 21 ∷ []
@@ -70,10 +70,10 @@ pub record LowestDifference (one other : Payment) (field : ℕ) : Type 0 where
   pub field-is : field ≡ suc (length equal-before)
 
 module _ (profile : Profile) (first second file : List ℕ) where
-  -- both messages are accepted, with equally many payments
+  -- both messages are accepted, the second as a new one, with equally many payments
   pub record Comparable : Type 0 where
     pub first-accepted : Accepted profile first
-    pub second-accepted : Accepted profile second
+    pub second-accepted : Accepted (as-new profile) second
     pub equally-many : length (payments (first-accepted .root)) ≡ length (payments (second-accepted .root))
 
   -- The file is that of as many ordinals, and those before the k-th each name a payment, none of them twice, that is equal to the second message's at its place.
@@ -94,8 +94,8 @@ module _ (profile : Profile) (first second file : List ℕ) where
 
   pub data AnswerIs : RegroupingAnswer → Type 0 where
     first-refused : {r : Refusal} → outcome-alone profile first ≡ refused-as r → AnswerIs (message-refused 1 r)
-    second-refused : {r : Refusal} → Accepted profile first → outcome-alone profile second ≡ refused-as r → AnswerIs (message-refused 2 r)
-    numbers-differ : (a : Accepted profile first) (b : Accepted profile second) → (length (payments (a .root)) ≡ length (payments (b .root)) → ⊥)
+    second-refused : {r : Refusal} → Accepted profile first → outcome-alone (as-new profile) second ≡ refused-as r → AnswerIs (message-refused 2 r)
+    numbers-differ : (a : Accepted profile first) (b : Accepted (as-new profile) second) → (length (payments (a .root)) ≡ length (payments (b .root)) → ⊥)
         → AnswerIs (answered 15 0 0)
     not-of-that-form : Comparable → ((ordinals : List ℕ) → file ≡ file-of ordinals → ⊥) → AnswerIs (answered 16 0 0)
     another-count : (c : Comparable) (ordinals : List ℕ) → file ≡ file-of ordinals → (length ordinals ≡ length (payments (c .first-accepted .root)) → ⊥)

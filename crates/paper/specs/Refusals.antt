@@ -10,7 +10,7 @@ use Rattle.paper.specs.Bytes.{if_then_else_, white, value-character, eve
 use Rattle.paper.specs.Form.{Head, Element, Elements, holding-text, holding-elements, []ᵉ, _∷ᵉ_}
 use Rattle.paper.specs.Computed.Reading.{Reading, root-is, stops-at, read}
 use Rattle.paper.specs.Rows.{Place, one, opt, plus, either, text, elements, Row, Profile, name, row-of, longest-of, head-of}
-use Rattle.paper.specs.Values.{lies-from, allowed, number, cents}
+use Rattle.paper.specs.Values.{among, lies-from, allowed, number, cents}
 use Rattle.paper.specs.Payments.{Payment, text-of, all-of, blocks, header-count, header-sum, block-id, block-count, block-sum, payments, in-payment, in-block, sum-of, total}
 
 -- A refusal's number, element and offset. `none` is no refusal.
@@ -40,7 +40,7 @@ unfoldable pub first-not : (ℕ → Bool) → List ℕ → ℕ
 first-not p [] = 0
 first-not p (b ∷ s) = if p b then suc (first-not p s) else 0
 
--- 3 and 4, one walk in the order of the file, in a profile. At the leaves it asks a judgement, which is none for 3 and 4.
+-- 3 and 4, one walk in the order of the file, in a profile. At each element, before what it holds, it asks a judgement, which is none for 3 and 4.
 -- What is left of a group's order: some places; or, where row k, one or more, has been seen, further ones of it and then some places.
 pub data Left : Type 0 where
   from-here : List Place → Left
@@ -114,36 +114,38 @@ unfoldable pub seek : Left → (name : List ℕ) → Sought
 seek (from-here ps) w = seek-in ps w
 seek (again k ps) w = if same w (name k) then found k (again k ps) else seek-in ps w
 
--- What is judged at the leaves.
+-- What is judged of an element as a row: by the element that holds it (the root has none) and that one's row (0 for the root), and by itself.
 abbrev pub Judgement : Type 0
-Judgement = (parent : ℕ) → Row → Head → List ℕ → Option Refusal
+Judgement = (holder : Option Element) (parent : ℕ) → Row → Element → Option Refusal
 
 module _ (profile : Profile) (judge : Judgement) where
   unfoldable mutual
-    pub walk : Element → (parent : ℕ) → Row → Option Refusal
-    walk (holding-text h w) parent r =
-        elim (r .holds) [ text longest ↦ judge parent r h w | elements places ↦ only-white (r .row) places h w ]
-    walk (holding-elements h ts) parent r =
+    pub walk : Element → (holder : Option Element) (parent : ℕ) → Row → Option Refusal
+    walk (holding-text h w) holder parent r =
+        judge holder parent r (holding-text h w) or-else
+        elim (r .holds) [ text longest ↦ none | elements places ↦ only-white (r .row) places h w ]
+    walk (holding-elements h ts) holder parent r =
+        judge holder parent r (holding-elements h ts) or-else
         elim (r .holds) [
           | text longest ↦ refuse 3 (r .row) (first-at ts (h .start))
-          | elements places ↦ walk-all ts (r .row) (from-here places) (h .close)
+          | elements places ↦ walk-all ts (holding-elements h ts) (r .row) (from-here places) (h .close)
         ]
 
-    pub walk-all : Elements → (row : ℕ) → Left → (close : ℕ) → Option Refusal
-    walk-all []ᵉ row left close = ends left close
-    walk-all (t ∷ᵉ ts) row left close =
+    pub walk-all : Elements → (holder : Element) (row : ℕ) → Left → (close : ℕ) → Option Refusal
+    walk-all []ᵉ holder row left close = ends left close
+    walk-all (t ∷ᵉ ts) holder row left close =
         elim (seek left (head-of t .name)) [
           | never ↦ refuse 3 row (head-of t .at)
           | early first ↦ refuse 4 first (head-of t .at)
-          | found k behind ↦ walk t row (row-of profile row k) or-else walk-all ts row behind close
+          | found k behind ↦ walk t (some holder) row (row-of profile row k) or-else walk-all ts holder row behind close
         ]
 
--- 3 and 4: no judgement at the leaves.
+-- 3 and 4: nothing is judged.
 unfoldable pub no-judgement : Judgement
-no-judgement parent r h w = none
+no-judgement holder parent r t = none
 
 unfoldable pub rows-refusal : Profile → Element → Option Refusal
-rows-refusal profile root = walk profile no-judgement root 0 (row-of profile 0 1)
+rows-refusal profile root = walk profile no-judgement root none 0 (row-of profile 0 1)
 
 -- 5: the 17th block or the 65th payment, whichever comes first.
 unfoldable pub sixty-fifth : (payments-before : ℕ) → List Element → Option Refusal
@@ -159,15 +161,24 @@ too-many b n (t ∷ ts) =
 unfoldable pub limits-refusal : Element → Option Refusal
 limits-refusal root = too-many 0 0 (blocks root)
 
--- 6 to 8: the walk that tries each leaf 6, 7, 8: it is empty or too long; a character is not in the set; the value is not allowed.
-unfoldable pub leaf-refusal : Judgement
-leaf-refusal parent r h w =
+-- 6 to 8 and 28: the walk that tries each leaf 6, 7, 8: it is empty or too long; a character is not in the set; the value is not allowed. An element of a row that is withdrawn is
+-- 28, whatever it holds.
+unfoldable pub text-refusal : (parent : ℕ) → Row → Head → List ℕ → Option Refusal
+text-refusal parent r h w =
     if not (lies-from 1 (longest-of (r .holds)) (length w)) then refuse 6 (r .row) (h .at) else
     if not (every value-character w) then refuse 7 (r .row) (h .start + first-not value-character w) else
     if not (allowed parent (r .row) (h .currency) w) then refuse 8 (r .row) (h .at) else none
 
+unfoldable pub leaf-refusal : (parent : ℕ) → Row → Element → Option Refusal
+leaf-refusal parent r (holding-text h w) = elim (r .holds) [ text longest ↦ text-refusal parent r h w | elements places ↦ none ]
+leaf-refusal parent r (holding-elements h ts) = none  -- in a leaf the walk refuses them: 3
+
+unfoldable pub value-refusal : (withdrawn : List ℕ) → Judgement
+value-refusal withdrawn holder parent r t =
+    if among (r .row) withdrawn then refuse 28 (r .row) (head-of t .at) else leaf-refusal parent r t
+
 unfoldable pub values-refusal : Profile → Element → Option Refusal
-values-refusal profile root = walk profile leaf-refusal root 0 (row-of profile 0 1)
+values-refusal profile root = walk profile (value-refusal (profile .withdrawn)) root none 0 (row-of profile 0 1)
 
 -- 9 and 10: one walk over payments, in each 16, 36, 34.
 unfoldable pub in-both : ℕ → Payment → Option Refusal

@@ -8,7 +8,7 @@ use lib.ListN.{length, getD, take, drop}
 use lib.Dec.{eqb, ltb}
 use Rattle.paper.specs.Bytes.{if_then_else_, bytes, same, each}
 use Rattle.paper.specs.Form.{Element}
-use Rattle.paper.specs.Rows.{Profile}
+use Rattle.paper.specs.Rows.{Profile, as-new}
 use Rattle.paper.specs.Values.{among}
 use Rattle.paper.specs.Payments.{Payment, payments}
 use Rattle.paper.specs.Refusals.{Refusal, Outcome, refused-as, accepted-with, outcome-alone}
@@ -85,17 +85,18 @@ of-outcomes (refused-as r) second file = message-refused 1 r
 of-outcomes (accepted-with t) (refused-as r) file = message-refused 2 r
 of-outcomes (accepted-with t) (accepted-with u) file = of-payments (all-values t) (all-values u) file
 
+-- The profile is the first message's, which may be archived. The second is read by the same rows, and as a new message.
 unfoldable pub regrouping : Profile → (first second file : List ℕ) → RegroupingAnswer
-regrouping profile first second file = of-outcomes (outcome-alone profile first) (outcome-alone profile second) file
+regrouping profile first second file = of-outcomes (outcome-alone profile first) (outcome-alone (as-new profile) second) file
 
 -- For 20 that field's text as the second message has it, otherwise the empty part at 0 of the second.
 unfoldable pub part-for : RegroupingAnswer → (second : Outcome) → Part
 part-for a second = if eqb (a .whose) 0 && eqb (a .number) 20 then field-part second (a .k) (a .field) else part-of none
 
 unfoldable pub differing-part : Profile → (first second file : List ℕ) → Part
-differing-part profile first second file = part-for (regrouping profile first second file) (outcome-alone profile second)
+differing-part profile first second file = part-for (regrouping profile first second file) (outcome-alone (as-new profile) second)
 
--- A regrouping is accepted, said plainly: both messages are accepted and have equally many payments; the list is well formed and names every
+-- A regrouping is accepted, said plainly: both messages are accepted, the second as a new one, and have equally many payments; the list is well formed and names every
 -- payment of the first message once, in the order of the second; each payment so paired is equal in all seventeen fields.
 pub data At {A : Type 0} : List A → (place : ℕ) → A → Type 0 where
   at-first : {a : A} {rest : List A} → At (a ∷ rest) zero a
@@ -109,7 +110,7 @@ pub record Names (first : List Payment) (ordinal : ℕ) (other : Payment) : Type
 
 pub record Regroups (profile : Profile) (first second file : List ℕ) : Type 0 where
   pub first-accepted : Accepted profile first
-  pub second-accepted : Accepted profile second
+  pub second-accepted : Accepted (as-new profile) second
   pub equally-many : length (payments (first-accepted .root)) ≡ length (payments (second-accepted .root))
   pub ordinals : List ℕ
   pub well-formed : file ≡ file-of ordinals

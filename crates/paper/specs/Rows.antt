@@ -3,7 +3,8 @@
 use Prim.Native.Nat.{ℕ}
 use Prim.Native.String.{String}
 use mathlib.Core.List.{List, [], _∷_, _++_, List·Memᴰ}
-use mathlib.Core.Bool.{_&&_, _||_}
+use mathlib.Core.Option.{Option, some}
+use mathlib.Core.Bool.{Bool, _&&_, _||_}
 use mathlib.Core.Path.{_≡_}
 use lib.Dec.{eqb}
 use Rattle.paper.specs.Bytes.{if_then_else_, bytes, white, Every}
@@ -116,15 +117,37 @@ with-rows (r ∷ changes) rs = with-rows changes (with-row r rs)
 unfoldable pub instant-rows : List Row
 instant-rows = with-rows instant-changes rows
 
--- A profile is what a message is read by. The caller names one of two: the first, whose rows are the list above, or the instant one.
+-- A profile is what a message is read by: rows, and those of them that are withdrawn, which the message may not hold. The caller names one of two lists of rows, `rows` or
+-- `instant-rows`, and says whether the message is archived. Of a new one row 32 is withdrawn, of an archived one no row is; so each of the two is here twice.
 pub record Profile : Type 0 where
   pub rows : List Row
+  pub withdrawn : List ℕ
 
+unfoldable pub for-new : List Row → Profile
+for-new rs = record { rows = rs; withdrawn = 32 ∷ [] }
+
+unfoldable pub for-archived : List Row → Profile
+for-archived rs = record { rows = rs; withdrawn = [] }
+
+unfoldable pub profile-by : (instant archived : Bool) → Profile
+profile-by instant archived = if archived then for-archived rs else for-new rs
+  where
+    rs : List Row
+    rs = if instant then instant-rows else rows
+
+-- the first and the instant one, for new messages
 unfoldable pub first-profile : Profile
-first-profile = record { rows = rows }
+first-profile = for-new rows
 
 unfoldable pub instant-profile : Profile
-instant-profile = record { rows = instant-rows }
+instant-profile = for-new instant-rows
+
+-- the profile of the same rows where the message is archived, and where it is new
+unfoldable pub as-archived : Profile → Profile
+as-archived profile = for-archived (profile .rows)
+
+unfoldable pub as-new : Profile → Profile
+as-new profile = for-new (profile .rows)
 
 -- A row's name goes by its number alone, in either profile. (That both lists give a row one name is computed: crates/form_names/proofs/Laws.antt, `rows-right`. A number that is
 -- no row's has the empty name, which no element has.)
@@ -166,21 +189,28 @@ unfoldable pub head-of : Element → Head
 head-of (holding-text h w) = h
 head-of (holding-elements h ts) = h
 
--- An element conforms to a row, in a profile: a leaf holds text that is right for it, a group holds children of rows that are arranged as it says, each
--- named as its row and conforming to it.
-module _ (profile : Profile) (Right : (parent : ℕ) → Row → Head → List ℕ → Type 0) where
+-- An element conforms to a row, in a profile: it is right for that row where it stands, a leaf holds text, and a group holds children of rows that are arranged as it says,
+-- each named as its row and conforming to it. It stands in a holder, which is of row `parent`; the root stands in none, and its parent is 0.
+module _ (profile : Profile) (Right : (holder : Option Element) (parent : ℕ) → Row → Element → Type 0) where
   unfoldable mutual
-    pub Conforms : Element → (parent : ℕ) → Row → Type 0
-    Conforms (holding-text h w) parent r =
-        elim (r .holds) [ text longest ↦ Right parent r h w | elements places ↦ Every white w × Arranged places [] ]
-    Conforms (holding-elements h ts) parent r =
-        elim (r .holds) [ text longest ↦ ⊥ | elements places ↦ (ks : List ℕ) × Arranged places ks × Conform ts (r .row) ks ]
+    pub Conforms : Element → (holder : Option Element) (parent : ℕ) → Row → Type 0
+    Conforms (holding-text h w) holder parent r =
+        elim (r .holds) [
+          | text longest ↦ Right holder parent r (holding-text h w)
+          | elements places ↦ Right holder parent r (holding-text h w) × Every white w × Arranged places []
+        ]
+    Conforms (holding-elements h ts) holder parent r =
+        elim (r .holds) [
+          | text longest ↦ ⊥
+          | elements places ↦
+              Right holder parent r (holding-elements h ts) × (ks : List ℕ) × Arranged places ks × Conform ts (holding-elements h ts) (r .row) ks
+        ]
 
-    pub Conform : Elements → (parent : ℕ) → List ℕ → Type 0
-    Conform []ᵉ parent ks = ks ≡ []
-    Conform (t ∷ᵉ ts) parent ks =
+    pub Conform : Elements → (holder : Element) (parent : ℕ) → List ℕ → Type 0
+    Conform []ᵉ holder parent ks = ks ≡ []
+    Conform (t ∷ᵉ ts) holder parent ks =
         elim ks [
           | [] ↦ ⊥
           | k ∷ others ↦
-              (head-of t .name ≡ name k) × Conforms t parent (row-of profile parent k) × Conform ts parent others
+              (head-of t .name ≡ name k) × Conforms t (some holder) parent (row-of profile parent k) × Conform ts holder parent others
         ]

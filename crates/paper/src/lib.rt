@@ -9,9 +9,10 @@ pub const MOST_BLOCKS: usize = 16;
 
 pub const MOST_PAYMENTS: usize = 64;
 
-// The profile that a caller names: the instant one, or else the first.
+// The profile that a caller names: with the instant rows or with the first, for an archived message or for a new one.
 pub struct Profile {
     pub instant: bool,
+    pub archived: bool,
 }
 
 // Why a message is refused.
@@ -25,6 +26,7 @@ pub enum Fault {
     EmptyOrTooLong { element: usize, offset: usize },
     CharacterNotInTheSet { element: usize, offset: usize },
     ValueNotAllowed { element: usize, offset: usize },
+    Withdrawn { element: usize, offset: usize },
     InPaymentAndBlock { element: usize, offset: usize },
     InNeither { offset: usize },
     BlockIdRepeated { offset: usize },
