@@ -1,5 +1,6 @@
 -- The cases that are computed, over the definitions. Under the first profile: those that were asked to be proved (P), in their order; the verdict on M1 itself, its
--- table, its fields' parts and the host's bytes. Under the instant profile: I1, its table and field 4. Under both: some refusals in which they agree.
+-- table, its fields' parts and the host's bytes. Under the instant profile: I1, its table and field 4. Under both: some refusals in which they agree. Row 32 in new and in archived
+-- messages, and how a caller says which they are.
 use Prim.Native.Nat.{ℕ, zero, suc}
 use Prim.Native.String.{String}
 use mathlib.Core.List.{List, [], _∷_, _++_}
@@ -7,7 +8,7 @@ use mathlib.Core.Bool.{Bool, true, false}
 use mathlib.Core.Path.{_≡_}
 use Rattle.paper.specs.Bytes.{bytes}
 use Rattle.paper.specs.Form.{root-tag}
-use Rattle.paper.specs.Rows.{Profile}
+use Rattle.paper.specs.Rows.{Profile, first-profile, instant-profile, as-archived}
 use Rattle.paper.specs.Values.{amount, iban, date, date-time-zone}
 use Rattle.paper.specs.Sizes.{least-table}
 use Rattle.paper.specs.Refusals.{MessageAnswer, accepted, refused, outcome-alone, outcome, verdict}
@@ -17,7 +18,8 @@ use Rattle.paper.specs.Regrouping.{RegroupingAnswer, message-refused, answered,
 use Rattle.paper.specs.Host.{profile-numbered, bytes-after}
 use Rattle.paper.specs.Answers.{profile-named}
 
--- Message M1, line by line, with what its neighbours change. Of a block and of a payment row 16 is given whole, or nothing where it has none; of a block what row 22 holds.
+-- Message M1, line by line, with what its neighbours change. Of a block and of a payment row 16 is given whole, or nothing where it has none; of a block what row 22 holds, and
+-- what row 30 of its debtor's agent holds: a BIC, or NOTPROVIDED.
 unfoldable pub header : (id count sum : String) → List ℕ
 header id count sum =
     bytes "<GrpHdr><MsgId>" ++
@@ -27,8 +29,14 @@ header id count sum =
     (bytes "</NbOfTxs><CtrlSum>" ++
     (bytes sum ++ bytes "</CtrlSum><InitgPty><Nm>Trials</Nm></InitgPty></GrpHdr>\n")))))
 
-unfoldable pub block-with : (type date : List ℕ) (id count sum ultimate-debtor : String) → List ℕ
-block-with type date id count sum ultimate-debtor =
+unfoldable pub a-bic : List ℕ
+a-bic = bytes "<BICFI>AAAALULL</BICFI>"
+
+unfoldable pub not-provided : List ℕ
+not-provided = bytes "<Othr><Id>NOTPROVIDED</Id></Othr>"
+
+unfoldable pub block-by : (agent type date : List ℕ) (id count sum ultimate-debtor : String) → List ℕ
+block-by agent type date id count sum ultimate-debtor =
     bytes "<PmtInf><PmtInfId>" ++
     (bytes id ++
     (bytes "</PmtInfId><PmtMtd>TRF</PmtMtd><NbOfTxs>" ++
@@ -40,14 +48,21 @@ block-with type date id count sum ultimate-debtor =
     (bytes "<ReqdExctnDt>" ++
     (date ++
     (bytes "</ReqdExctnDt><Dbtr><Nm>Institute</Nm></Dbtr>" ++
-    (bytes "<DbtrAcct><Id><IBAN>LU566541234567890123</IBAN></Id></DbtrAcct><DbtrAgt><FinInstnId><BICFI>AAAALULL</BICFI></FinInstnId></DbtrAgt>" ++
-    (bytes ultimate-debtor ++ bytes "\n"))))))))))))
+    (bytes "<DbtrAcct><Id><IBAN>LU566541234567890123</IBAN></Id></DbtrAcct><DbtrAgt><FinInstnId>" ++
+    (agent ++
+    (bytes "</FinInstnId></DbtrAgt>" ++ (bytes ultimate-debtor ++ bytes "\n"))))))))))))))
+
+unfoldable pub block-with : (type date : List ℕ) (id count sum ultimate-debtor : String) → List ℕ
+block-with type date id count sum ultimate-debtor = block-by a-bic type date id count sum ultimate-debtor
 
 unfoldable pub sepa : List ℕ
 sepa = bytes "<PmtTpInf><SvcLvl><Cd>SEPA</Cd></SvcLvl></PmtTpInf>"
 
+unfoldable pub fourth-of-march : List ℕ
+fourth-of-march = bytes "<Dt>2026-03-04</Dt>"
+
 unfoldable pub block : (id count sum ultimate-debtor : String) → List ℕ
-block id count sum ultimate-debtor = block-with sepa (bytes "<Dt>2026-03-04</Dt>") id count sum ultimate-debtor
+block id count sum ultimate-debtor = block-with sepa fourth-of-march id count sum ultimate-debtor
 
 unfoldable pub payment-with : (type : List ℕ) (end-to-end-id amount creditor account : String) → List ℕ
 payment-with type end-to-end-id amount creditor account =
@@ -77,7 +92,8 @@ weis = payment "E1" "12.5" "A Weis" "LU699871234567898765"
 unfoldable pub klein : List ℕ
 klein = payment "E2" "22.60" "B Klein" "LU415551234567898765"
 
--- M1 with another header; M1; M2 is M1 with its payments exchanged; M3 is M1 with the second payment in a block B2 without ultimate debtor.
+-- M1 with another header; M1; M2 is M1 with its payments exchanged; M3 is M1 with the second payment in a block B2 without ultimate debtor, and so with other agents of the
+-- debtor and another id of the second block.
 unfoldable pub m1-with : (id count sum : String) → List ℕ
 m1-with id count sum = order (header id count sum) (block "B1" "2" "35.1" study-12 ++ (weis ++ klein))
 
@@ -87,10 +103,14 @@ m1 = m1-with "M1" "2" "35.10"
 unfoldable pub m2 : List ℕ
 m2 = order (header "M1" "2" "35.10") (block "B1" "2" "35.1" study-12 ++ (klein ++ weis))
 
-unfoldable pub m3 : List ℕ
-m3 =
+unfoldable pub m3-by : (agent other-agent : List ℕ) (other-id : String) → List ℕ
+m3-by agent other-agent other-id =
     order (header "M1" "2" "35.10")
-    (block "B1" "1" "12.5" study-12 ++ (weis ++ (bytes "</PmtInf>" ++ (block "B2" "1" "22.60" "" ++ klein))))
+    (block-by agent sepa fourth-of-march "B1" "1" "12.5" study-12 ++
+    (weis ++ (bytes "</PmtInf>" ++ (block-by other-agent sepa fourth-of-march other-id "1" "22.60" "" ++ klein))))
+
+unfoldable pub m3 : List ℕ
+m3 = m3-by a-bic a-bic "B2"
 
 -- I1 is M1 with a local instrument in its row 16 and a date and time in its row 22; so with other rows 16 and 22. I2 is I1 with its payments exchanged.
 unfoldable pub inst : List ℕ
@@ -108,13 +128,24 @@ i1 = i1-with inst half-past-nine
 unfoldable pub i2 : List ℕ
 i2 = order (header "M1" "2" "35.10") (block-with inst half-past-nine "B1" "2" "35.1" study-12 ++ (klein ++ weis))
 
+-- M1 and I1 with another agent of the debtor; M1 so, with something behind its payments
+unfoldable pub m1-by-and : (agent behind : List ℕ) → List ℕ
+m1-by-and agent behind =
+    order (header "M1" "2" "35.10") (block-by agent sepa fourth-of-march "B1" "2" "35.1" study-12 ++ (weis ++ (klein ++ behind)))
+
+unfoldable pub m1-by : (agent : List ℕ) → List ℕ
+m1-by agent = m1-by-and agent []
+
+unfoldable pub i1-by : (agent : List ℕ) → List ℕ
+i1-by agent = order (header "M1" "2" "35.10") (block-by agent inst half-past-nine "B1" "2" "35.1" study-12 ++ (weis ++ klein))
+
 -- the list of two ordinals
 unfoldable pub list : (first second : ℕ) → List ℕ
 list first second = bytes "RGL" ++ (0 ∷ 1 ∷ 0 ∷ 2 ∷ 0 ∷ first ∷ 0 ∷ second ∷ [])
 
 -- A case: the verdict on a message with a table that is long enough; what a value's rule says; the answer to a regrouping; the table after a message, laid over
 -- an old one, and its bytes; the start and length of a field's part; those of the part that is handed back after a regrouping. It holds under a profile. Two name
--- their own: the verdict on a message under the profile that is named by a number, as a host in C does, or by whether it is the instant one, as the code does.
+-- their own: the verdict on a message under the profile that two numbers name, as a host in C does, or two truths, as the code does. One says which profile the numbers name.
 pub data Case : Type 0 where
   message : List ℕ → MessageAnswer → Case
   value : (List ℕ → Bool) → String → Bool → Case
@@ -122,8 +153,9 @@ pub data Case : Type 0 where
   table bytes-of : (message old after : List ℕ) → Case
   field : (message : List ℕ) (payment field start size : ℕ) → Case
   differing : (first second file : List ℕ) (start size : ℕ) → Case
-  by-number : (profile-number : ℕ) → List ℕ → MessageAnswer → Case
-  by-name : (instant : Bool) → List ℕ → MessageAnswer → Case
+  by-number : (profile archived : ℕ) → List ℕ → MessageAnswer → Case
+  by-name : (instant archived : Bool) → List ℕ → MessageAnswer → Case
+  numbers-name : (profile archived : ℕ) → Profile → Case
 
 unfoldable pub Holds : Profile → Case → Type 0
 Holds profile (message s a) = verdict profile least-table s ≡ a
@@ -133,8 +165,9 @@ Holds profile (table s old after) = table-after (outcome profile least-table s) 
 Holds profile (bytes-of s old after) = bytes-after (outcome profile least-table s) old ≡ after
 Holds profile (field s payment number start size) = field-part (outcome-alone profile s) payment number ≡ record { start = start; size = size }
 Holds profile (differing first second file start size) = differing-part profile first second file ≡ record { start = start; size = size }
-Holds profile (by-number n s a) = verdict (profile-numbered n) least-table s ≡ a
-Holds profile (by-name instant s a) = verdict (profile-named (record { instant = instant })) least-table s ≡ a
+Holds profile (by-number n archived s a) = verdict (profile-numbered n archived) least-table s ≡ a
+Holds profile (by-name instant archived s a) = verdict (profile-named (record { instant = instant; archived = archived })) least-table s ≡ a
+Holds profile (numbers-name n archived which) = profile-numbered n archived ≡ which
 
 unfoldable pub refused-with : (number element offset : ℕ) → MessageAnswer
 refused-with number element offset = refused (record { number = number; element = element; offset = offset })
@@ -242,12 +275,12 @@ instant-cases =
     value date-time-zone "2026-03-04T09:30:00" false ∷
     value date-time-zone "2026-02-29T09:30:00Z" false ∷
     -- which profile is meant: the number 1 is the instant one, any other the first
-    by-number 0 m1 (accepted 1 2 3510) ∷
-    by-number 1 i1 (accepted 1 2 3510) ∷
-    by-number 2 i1 (refused-with 3 16 371) ∷
-    by-number 257 i1 (refused-with 3 16 371) ∷
-    by-name false m1 (accepted 1 2 3510) ∷
-    by-name true i1 (accepted 1 2 3510) ∷ []
+    by-number 0 0 m1 (accepted 1 2 3510) ∷
+    by-number 1 0 i1 (accepted 1 2 3510) ∷
+    by-number 2 0 i1 (refused-with 3 16 371) ∷
+    by-number 257 0 i1 (refused-with 3 16 371) ∷
+    by-name false false m1 (accepted 1 2 3510) ∷
+    by-name true false i1 (accepted 1 2 3510) ∷ []
 
 -- Under the first profile: I1, and M1 with a local instrument alone or a date and time alone.
 unfoldable pub first-cases : List Case
@@ -265,3 +298,60 @@ both-cases =
     message (root-tag ++ bytes "</Document>") (refused-with 4 2 65) ∷
     message (i1-with (bytes "<PmtTpInf></PmtTpInf>") half-past-nine) (refused-with 4 18 341) ∷
     message (i1-with [] (bytes "<Dt>2026-03-04</Dt>")) (refused-with 10 16 579) ∷ []
+
+-- Row 32 in place of the BIC. Under the first profile, which is for new messages: 28 at its `<`, whatever it holds, after 3 and 4, before a leaf behind it
+-- and before the counts. Both messages of a regrouping are new.
+unfoldable pub withdrawn-cases : List Case
+withdrawn-cases =
+    message (m1-by not-provided) (refused-with 28 32 543) ∷
+    message (m1-by (bytes "<Othr><Id></Id></Othr>")) (refused-with 28 32 543) ∷
+    message (m1-by (bytes "<Othr></Othr>")) (refused-with 4 33 549) ∷
+    message (m1-by-and not-provided (bytes "<Other></Other>")) (refused-with 3 10 1056) ∷
+    message (m1-by-and not-provided (payment "E3" "0.00" "A Weis" "LU699871234567898765")) (refused-with 28 32 543) ∷
+    message (m1-by-and not-provided weis) (refused-with 28 32 543) ∷
+    field (m1-by not-provided) 0 7 0 0 ∷
+    moved (m1-by not-provided) m1 (list 0 1) (message-refused-with 1 28 32 543) ∷
+    moved m1 (m1-by not-provided) (list 0 1) (message-refused-with 2 28 32 543) ∷ []
+
+-- The same where the first message, or the only one, is archived. The second of a regrouping is new.
+unfoldable pub archived-cases : List Case
+archived-cases =
+    message (m1-by not-provided) (accepted 1 2 3510) ∷
+    message (m1-by (bytes "<Othr><Id></Id></Othr>")) (refused-with 6 33 549) ∷
+    message (m1-by (bytes "<Othr></Othr>")) (refused-with 4 33 549) ∷
+    message (m1-by-and not-provided (bytes "<Other></Other>")) (refused-with 3 10 1056) ∷
+    message (m1-by-and not-provided (payment "E3" "0.00" "A Weis" "LU699871234567898765")) (refused-with 8 42 1116) ∷
+    message (m1-by-and not-provided weis) (refused-with 12 6 147) ∷
+    field (m1-by not-provided) 0 7 553 11 ∷
+    moved (m1-by not-provided) m1 (list 0 1) (answered 20 0 7) ∷
+    differing (m1-by not-provided) m1 (list 0 1) 550 8 ∷
+    moved m1 (m1-by not-provided) (list 0 1) (message-refused-with 2 28 32 543) ∷
+    moved (m1-by not-provided) (m1-by not-provided) (list 0 1) (message-refused-with 2 28 32 543) ∷
+    table m1 (times 33 1) (m1-numbers ++ (1 ∷ [])) ∷
+    moved m1 m2 (list 1 0) (answered 0 0 0) ∷ []
+
+-- Which profile is meant, and of what message: the number 0 is a new one, any other an archived one.
+unfoldable pub naming-cases : List Case
+naming-cases =
+    by-number 0 0 (m1-by not-provided) (refused-with 28 32 543) ∷
+    by-number 0 1 (m1-by not-provided) (accepted 1 2 3510) ∷
+    by-number 2 256 (m1-by not-provided) (accepted 1 2 3510) ∷
+    by-number 1 0 (i1-by not-provided) (refused-with 28 32 598) ∷
+    by-number 1 2 (i1-by not-provided) (accepted 1 2 3510) ∷
+    by-number 0 1 (i1-by not-provided) (refused-with 3 16 371) ∷
+    by-name false false (m1-by not-provided) (refused-with 28 32 543) ∷
+    by-name false true (m1-by not-provided) (accepted 1 2 3510) ∷
+    by-name true false (i1-by not-provided) (refused-with 28 32 598) ∷
+    by-name true true (i1-by not-provided) (accepted 1 2 3510) ∷
+    numbers-name 0 0 first-profile ∷
+    numbers-name 0 1 (as-archived first-profile) ∷
+    numbers-name 0 2 (as-archived first-profile) ∷
+    numbers-name 0 256 (as-archived first-profile) ∷
+    numbers-name 1 0 instant-profile ∷
+    numbers-name 1 1 (as-archived instant-profile) ∷
+    numbers-name 1 2 (as-archived instant-profile) ∷
+    numbers-name 1 256 (as-archived instant-profile) ∷
+    numbers-name 2 0 first-profile ∷
+    numbers-name 2 1 (as-archived first-profile) ∷
+    numbers-name 2 2 (as-archived first-profile) ∷
+    numbers-name 2 256 (as-archived first-profile) ∷ []

@@ -8,13 +8,13 @@ use lib.ListN.{length, getD, drop}
 use lib.Dec.{eqb}
 use Rattle.paper.specs.Bytes.{if_then_else_, bytes, each}
 use Rattle.paper.specs.Form.{root-tag}
-use Rattle.paper.specs.Rows.{Profile}
+use Rattle.paper.specs.Rows.{Profile, as-archived, as-new}
 use Rattle.paper.specs.Sizes.{least-table}
 use Rattle.paper.specs.Refusals.{MessageAnswer, Outcome, outcome-alone, outcome, verdict}
 use Rattle.paper.specs.Table.{Part, table-after}
 use Rattle.paper.specs.Fields.{Value, field-part}
 use Rattle.paper.specs.Regrouping.{RegroupingAnswer, of-outcomes, regrouping, differing-part, file-of, often}
-use Rattle.paper_cases.specs.Cases.{header, m1}
+use Rattle.paper_cases.specs.Cases.{header, a-bic, not-provided, m1}
 
 -- a second message for a regrouping, and the answer
 pub data Second : Type 0 where
@@ -35,6 +35,9 @@ pub data Case : Type 0 where
   -- the file of some ordinals; how often a payment, taken as its fields, stands among some
   filed : (ordinals file : List ℕ) → Case
   often-is : List Value → List (List Value) → ℕ → Case
+  -- the verdicts on a message, as a new one and as an archived one; a case in which the message, or the first of two, is archived
+  new-and-archived : List ℕ → (new archived : MessageAnswer) → Case
+  archived : Case → Case
 
 unfoldable pub part : (start size : ℕ) → Part
 part start size = record { start = start; size = size }
@@ -53,7 +56,7 @@ no-parts =
 -- what is answered to regroupings of one first message, and what should be
 unfoldable pub answers : Profile → (first : Outcome) (file : List ℕ) → List Second → List RegroupingAnswer
 answers profile first file [] = []
-answers profile first file (to second a ∷ others) = of-outcomes first (outcome-alone profile second) file ∷ answers profile first file others
+answers profile first file (to second a ∷ others) = of-outcomes first (outcome-alone (as-new profile) second) file ∷ answers profile first file others
 
 unfoldable pub expected : List Second → List RegroupingAnswer
 expected [] = []
@@ -69,6 +72,12 @@ Holds profile (each-moved first file seconds) = answers profile (outcome-alone p
 Holds profile (differing first second file start size) = differing-part profile first second file ≡ part start size
 Holds profile (filed ordinals file) = file-of ordinals ≡ file
 Holds profile (often-is p ps n) = often p ps ≡ n
+Holds profile (new-and-archived s a b) = verdict (as-new profile) least-table s ∷ verdict (as-archived profile) least-table s ∷ [] ≡ a ∷ b ∷ []
+Holds profile (archived c) = Holds (as-archived profile) c
+
+-- the same verdict on a message, whether it is new or archived
+unfoldable pub either-way : List ℕ → MessageAnswer → Case
+either-way s a = new-and-archived s a a
 
 -- a text begins with another
 unfoldable pub begins-with : (front text : List ℕ) → Bool
@@ -89,9 +98,9 @@ m1-but old new = but old new m1
 
 -- M4 has every optional row. Its first block books singly, has priority and category purpose, a BIC and charges; its second has no row 16, NOTPROVIDED and an ultimate
 -- debtor. Its first payment has an ultimate debtor of its own and free text; its second a reference with issuer; its third a row 16 and charges of its own and a
--- reference without issuer.
-unfoldable pub m4 : List ℕ
-m4 =
+-- reference without issuer. So with another agent of the second block's debtor; with a BIC there it may be new.
+unfoldable pub m4-by : (agent : List ℕ) → List ℕ
+m4-by agent =
     root-tag ++
     (bytes "<CstmrCdtTrfInitn>\n" ++
     (header "M4" "3" "35.15" ++
@@ -108,30 +117,49 @@ m4 =
     (bytes "<Tp><CdOrPrtry><Cd>SCOR</Cd></CdOrPrtry><Issr>ISO</Issr></Tp><Ref>RF18</Ref></CdtrRefInf></Strd></RmtInf></CdtTrfTxInf>\n</PmtInf>" ++
     (bytes "<PmtInf><PmtInfId>B2</PmtInfId><PmtMtd>TRF</PmtMtd><NbOfTxs>1</NbOfTxs><CtrlSum>0.05</CtrlSum><ReqdExctnDt><Dt>2026-03-05</Dt></ReqdExctnDt>" ++
     (bytes "<Dbtr><Nm>Site</Nm></Dbtr><DbtrAcct><Id><IBAN>BE68539007547034</IBAN></Id></DbtrAcct>" ++
-    (bytes "<DbtrAgt><FinInstnId><Othr><Id>NOTPROVIDED</Id></Othr></FinInstnId></DbtrAgt><UltmtDbtr><Nm>Study 13</Nm></UltmtDbtr>\n" ++
+    (bytes "<DbtrAgt><FinInstnId>" ++
+    (agent ++
+    (bytes "</FinInstnId></DbtrAgt><UltmtDbtr><Nm>Study 13</Nm></UltmtDbtr>\n" ++
     (bytes "<CdtTrfTxInf><PmtId><EndToEndId>E3</EndToEndId></PmtId><PmtTpInf><SvcLvl><Cd>SEPA</Cd></SvcLvl><CtgyPurp><Cd>SUPP</Cd></CtgyPurp></PmtTpInf>" ++
     (bytes "<Amt><InstdAmt Ccy=\"EUR\">0.05</InstdAmt></Amt><ChrgBr>SLEV</ChrgBr><Cdtr><Nm>D Roth</Nm></Cdtr>" ++
     (bytes "<CdtrAcct><Id><IBAN>DE89370400440532013000</IBAN></Id></CdtrAcct><RmtInf><Strd><CdtrRefInf><Tp><CdOrPrtry><Cd>SCOR</Cd></CdOrPrtry></Tp>" ++
-    bytes "<Ref>RF19</Ref></CdtrRefInf></Strd></RmtInf></CdtTrfTxInf>\n</PmtInf></CstmrCdtTrfInitn></Document>\n")))))))))))))))))))
+    bytes "<Ref>RF19</Ref></CdtrRefInf></Strd></RmtInf></CdtTrfTxInf>\n</PmtInf></CstmrCdtTrfInitn></Document>\n")))))))))))))))))))))
 
--- M5 has one payment, and every optional row once, each in the block where it may stand there.
-unfoldable pub m5 : List ℕ
-m5 =
+unfoldable pub m4 : List ℕ
+m4 = m4-by not-provided
+
+unfoldable pub m4-new : List ℕ
+m4-new = m4-by a-bic
+
+-- M5 has one payment, and every optional row once, each in the block where it may stand there. So with another agent of the debtor; with a BIC it may be new.
+unfoldable pub m5-by : (agent : List ℕ) → List ℕ
+m5-by agent =
     root-tag ++
     (bytes "<CstmrCdtTrfInitn>\n" ++
     (header "M5" "1" "12.5" ++
     (bytes "<PmtInf><PmtInfId>B1</PmtInfId><PmtMtd>TRF</PmtMtd><BtchBookg>false</BtchBookg><NbOfTxs>1</NbOfTxs><CtrlSum>12.5</CtrlSum>" ++
     (bytes "<PmtTpInf><InstrPrty>HIGH</InstrPrty><SvcLvl><Cd>SEPA</Cd></SvcLvl><CtgyPurp><Cd>SALA</Cd></CtgyPurp></PmtTpInf>" ++
     (bytes "<ReqdExctnDt><Dt>2026-03-04</Dt></ReqdExctnDt><Dbtr><Nm>Institute</Nm></Dbtr><DbtrAcct><Id><IBAN>LU566541234567890123</IBAN></Id></DbtrAcct>" ++
-    (bytes "<DbtrAgt><FinInstnId><Othr><Id>NOTPROVIDED</Id></Othr></FinInstnId></DbtrAgt><UltmtDbtr><Nm>Study 12</Nm></UltmtDbtr><ChrgBr>SLEV</ChrgBr>\n" ++
+    (bytes "<DbtrAgt><FinInstnId>" ++
+    (agent ++
+    (bytes "</FinInstnId></DbtrAgt><UltmtDbtr><Nm>Study 12</Nm></UltmtDbtr><ChrgBr>SLEV</ChrgBr>\n" ++
     (bytes "<CdtTrfTxInf><PmtId><InstrId>I1</InstrId><EndToEndId>E1</EndToEndId></PmtId><Amt><InstdAmt Ccy=\"EUR\">12.5</InstdAmt></Amt>" ++
     (bytes "<CdtrAgt><FinInstnId><BICFI>BBBBLULL</BICFI></FinInstnId></CdtrAgt><Cdtr><Nm>A Weis</Nm></Cdtr>" ++
     (bytes "<CdtrAcct><Id><IBAN>LU699871234567898765</IBAN></Id></CdtrAcct><UltmtCdtr><Nm>C Meyer</Nm></UltmtCdtr><Purp><Cd>GDDS</Cd></Purp>" ++
     (bytes "<RmtInf><Strd><CdtrRefInf><Tp><CdOrPrtry><Cd>SCOR</Cd></CdOrPrtry><Issr>ISO</Issr></Tp><Ref>RF18</Ref></CdtrRefInf></Strd></RmtInf></CdtTrfTxInf>\n" ++
-    bytes "</PmtInf></CstmrCdtTrfInitn></Document>\n"))))))))))
+    bytes "</PmtInf></CstmrCdtTrfInitn></Document>\n"))))))))))))
+
+unfoldable pub m5 : List ℕ
+m5 = m5-by not-provided
 
 unfoldable pub m5-but : (old new : String) → List ℕ
 m5-but old new = but old new m5
+
+unfoldable pub m5-new : List ℕ
+m5-new = m5-by a-bic
+
+unfoldable pub m5-new-but : (old new : String) → List ℕ
+m5-new-but old new = but old new m5-new
 
 -- Bare messages: of each row the element with the required children of its row and no text. They keep the rows or break them, and where they keep them their first leaf is
 -- refused, being empty.

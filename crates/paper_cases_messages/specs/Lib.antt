@@ -5,3 +5,4 @@ pub mod AlikeCases
 pub mod StageCases
 pub mod FieldCases
 pub mod RegroupingCases
+pub mod WithdrawnCases

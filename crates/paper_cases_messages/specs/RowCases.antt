@@ -4,7 +4,7 @@ use Rattle.paper.specs.Bytes.{bytes}
 use Rattle.paper.specs.Form.{root-tag}
 use Rattle.paper.specs.Refusals.{accepted}
 use Rattle.paper_cases.specs.Cases.{refused-with}
-use Rattle.paper_cases_messages.specs.Changed.{Case, message, but, m1-but, m4, m5, m5-but, bare, initiation, between, header-of, inside-block, block-of, inside-payment, payment-of}
+use Rattle.paper_cases_messages.specs.Changed.{Case, message, archived, either-way, but, m1-but, m4, m5, m5-but, bare, initiation, between, header-of, inside-block, block-of, inside-payment, payment-of}
 
 -- A child that the group does not have, or whose place is past, is 3, even where a required row is missing as well; what stands inside it is never looked at.
 unfoldable pub child-cases : List Case
@@ -45,18 +45,18 @@ missing-cases =
 -- Of a choice a second alternative is 3 on the group, and nothing is 4 on its first row. FinInstnId under row 43 holds only 31.
 unfoldable pub choice-cases : List Case
 choice-cases =
-    message (m1-but "</BICFI>" "</BICFI><Othr><Id>NOTPROVIDED</Id></Othr>") (refused-with 3 30 566) ∷
-    message (m1-but "<BICFI>" "<Othr><Id>NOTPROVIDED</Id></Othr><BICFI>") (refused-with 3 30 576) ∷
+    either-way (m1-but "</BICFI>" "</BICFI><Othr><Id>NOTPROVIDED</Id></Othr>") (refused-with 3 30 566) ∷
+    either-way (m1-but "<BICFI>" "<Othr><Id>NOTPROVIDED</Id></Othr><BICFI>") (refused-with 3 30 576) ∷
     message (m1-but "</BICFI>" "</BICFI><BICFI>AAAALULL</BICFI>") (refused-with 3 30 566) ∷
     message (m1-but "<BICFI>AAAALULL</BICFI>" "") (refused-with 4 31 543) ∷
     message (m1-but "<BICFI>AAAALULL</BICFI>" " ") (refused-with 4 31 544) ∷
     message (m1-but "<BICFI>AAAALULL</BICFI>" "<Id>AAAALULL</Id>") (refused-with 3 30 543) ∷
-    message (m1-but "<BICFI>AAAALULL</BICFI>" "<Othr><Id>NOTPROVIDED</Id></Othr>") (accepted 1 2 3510) ∷
-    message (inside-payment (38 ∷ 41 ∷ []) "<CdtrAgt><FinInstnId>" (32 ∷ []) "</FinInstnId></CdtrAgt>") (refused-with 3 30 562) ∷
-    message (m5-but "<BICFI>BBBBLULL</BICFI>" "<Othr><Id>NOTPROVIDED</Id></Othr>") (refused-with 3 30 892) ∷
-    message (m5-but "<RmtInf>" "<RmtInf><Ustrd>x</Ustrd>") (refused-with 3 48 1118) ∷
-    message (m5-but "</Strd>" "</Strd><Ustrd>x</Ustrd>") (refused-with 3 48 1216) ∷
-    message (m5-but "</Strd>" "</Strd><Strd></Strd>") (refused-with 3 48 1216) ∷
+    archived (message (m1-but "<BICFI>AAAALULL</BICFI>" "<Othr><Id>NOTPROVIDED</Id></Othr>") (accepted 1 2 3510)) ∷
+    either-way (inside-payment (38 ∷ 41 ∷ []) "<CdtrAgt><FinInstnId>" (32 ∷ []) "</FinInstnId></CdtrAgt>") (refused-with 3 30 562) ∷
+    either-way (m5-but "<BICFI>BBBBLULL</BICFI>" "<Othr><Id>NOTPROVIDED</Id></Othr>") (refused-with 3 30 892) ∷
+    either-way (m5-but "<RmtInf>" "<RmtInf><Ustrd>x</Ustrd>") (refused-with 3 48 1118) ∷
+    either-way (m5-but "</Strd>" "</Strd><Ustrd>x</Ustrd>") (refused-with 3 48 1216) ∷
+    either-way (m5-but "</Strd>" "</Strd><Strd></Strd>") (refused-with 3 48 1216) ∷
     message (m1-but "</CdtrAcct>" "</CdtrAcct><RmtInf></RmtInf>") (refused-with 4 49 830) ∷
     message (m1-but "</CdtrAcct>" "</CdtrAcct><RmtInf><Ustrd>x</Ustrd></RmtInf>") (accepted 1 2 3510) ∷ []
 
@@ -85,8 +85,8 @@ walk-cases =
 -- With every optional row, and with the rows kept and the leaves empty.
 unfoldable pub whole-cases : List Case
 whole-cases =
-    message m4 (accepted 2 3 3515) ∷
-    message m5 (accepted 1 1 1250) ∷
+    archived (message m4 (accepted 2 3 3515)) ∷
+    archived (message m5 (accepted 1 1 1250)) ∷
     message (inside-payment (38 ∷ 41 ∷ 44 ∷ 45 ∷ []) "" [] "") (refused-with 6 4 91) ∷
     message (payment-of (38 ∷ 16 ∷ 41 ∷ 36 ∷ 34 ∷ 43 ∷ 44 ∷ 45 ∷ 46 ∷ 47 ∷ 48 ∷ [])) (refused-with 6 4 91) ∷
     message (inside-payment (38 ∷ 41 ∷ 44 ∷ 45 ∷ []) "<RmtInf>" (50 ∷ []) "</RmtInf>") (refused-with 6 4 91) ∷ []
@@ -202,8 +202,8 @@ deeper-row-cases =
     message (inside-block (11 ∷ 12 ∷ 14 ∷ 15 ∷ 22 ∷ 24 ∷ 26 ∷ []) "<DbtrAgt><FinInstnId>" [] "</FinInstnId></DbtrAgt>") (refused-with 4 31 408) ∷
     message (inside-block (11 ∷ 12 ∷ 14 ∷ 15 ∷ 22 ∷ 24 ∷ 26 ∷ []) "<DbtrAgt><FinInstnId>" (31 ∷ 31 ∷ []) "</FinInstnId></DbtrAgt>") (refused-with 3 30 423) ∷
     -- 32
-    message (inside-block (11 ∷ 12 ∷ 14 ∷ 15 ∷ 22 ∷ 24 ∷ 26 ∷ []) "<DbtrAgt><FinInstnId><Othr>" [] "</Othr></FinInstnId></DbtrAgt>") (refused-with 4 33 414) ∷
-    message (inside-block (11 ∷ 12 ∷ 14 ∷ 15 ∷ 22 ∷ 24 ∷ 26 ∷ []) "<DbtrAgt><FinInstnId><Othr>" (33 ∷ 33 ∷ []) "</Othr></FinInstnId></DbtrAgt>") (refused-with 3 32 423) ∷
+    either-way (inside-block (11 ∷ 12 ∷ 14 ∷ 15 ∷ 22 ∷ 24 ∷ 26 ∷ []) "<DbtrAgt><FinInstnId><Othr>" [] "</Othr></FinInstnId></DbtrAgt>") (refused-with 4 33 414) ∷
+    either-way (inside-block (11 ∷ 12 ∷ 14 ∷ 15 ∷ 22 ∷ 24 ∷ 26 ∷ []) "<DbtrAgt><FinInstnId><Othr>" (33 ∷ 33 ∷ []) "</Othr></FinInstnId></DbtrAgt>") (refused-with 3 32 423) ∷
     -- 34 in a block
     message (inside-block (11 ∷ 12 ∷ 14 ∷ 15 ∷ 22 ∷ 24 ∷ 26 ∷ 29 ∷ []) "<UltmtDbtr>" [] "</UltmtDbtr>") (refused-with 4 35 457) ∷
     message (inside-block (11 ∷ 12 ∷ 14 ∷ 15 ∷ 22 ∷ 24 ∷ 26 ∷ 29 ∷ []) "<UltmtDbtr>" (35 ∷ 35 ∷ []) "</UltmtDbtr>") (refused-with 3 34 466) ∷

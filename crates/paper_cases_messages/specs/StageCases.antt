@@ -3,7 +3,7 @@ use mathlib.Core.List.{List, [], _∷_, _++_}
 use Rattle.paper.specs.Bytes.{bytes}
 use Rattle.paper.specs.Refusals.{accepted}
 use Rattle.paper_cases.specs.Cases.{refused-with, m3, m1-with}
-use Rattle.paper_cases_messages.specs.Changed.{Case, message, but, m1-but, m4, m5-but, bare, initiation, copies, crowd}
+use Rattle.paper_cases_messages.specs.Changed.{Case, message, archived, either-way, but, m1-but, m4, m5-but, bare, initiation, copies, crowd}
 
 -- 5: the 17th block or the 65th payment, whichever comes first in the file; 16 blocks and 64 payments are allowed.
 unfoldable pub limit-cases : List Case
@@ -43,30 +43,30 @@ each-leaf-cases =
     message (m1-but "Trials" "") (refused-with 6 9 201) ∷
     message (m1-but "B1" "B/") (refused-with 8 11 245) ∷
     message (m1-but "TRF" "CHK") (refused-with 8 12 268) ∷
-    message (m5-but "false" "FALSE") (refused-with 8 13 287) ∷
+    either-way (m5-but "false" "FALSE") (refused-with 8 13 287) ∷
     message (m1-but "TRF</PmtMtd><NbOfTxs>2" "TRF</PmtMtd><NbOfTxs>2.0") (refused-with 8 14 288) ∷
     message (m1-but ">35.1<" ">.1<") (refused-with 8 15 308) ∷
-    message (m5-but "HIGH" "LOW") (refused-with 8 17 368) ∷
+    either-way (m5-but "HIGH" "LOW") (refused-with 8 17 368) ∷
     message (m1-but "SEPA" "SCOR") (refused-with 8 19 349) ∷
-    message (m5-but "SALA" "sala") (refused-with 8 21 435) ∷
+    either-way (m5-but "SALA" "sala") (refused-with 8 21 435) ∷
     message (m1-but "2026-03-04" "2026-02-29") (refused-with 8 23 395) ∷
     message (m1-but "Institute" " ") (refused-with 8 25 434) ∷
     message (m1-but "LU566541234567890123" "LU566541234567890124") (refused-with 8 28 473) ∷
-    message (m5-but "NOTPROVIDED" "AAAALULL") (refused-with 8 33 637) ∷
+    archived (message (m5-but "NOTPROVIDED" "AAAALULL") (refused-with 8 33 637)) ∷
     message (m1-but "AAAALULL" "NOTPROVIDED") (refused-with 8 31 543) ∷
     message (m1-but "Study 12" "") (refused-with 6 35 600) ∷
-    message (m5-but "SLEV" "SHAR") (refused-with 8 36 727) ∷
-    message (m5-but "I1" "/I") (refused-with 8 39 769) ∷
+    archived (message (m5-but "SLEV" "SHAR") (refused-with 8 36 727)) ∷
+    archived (message (m5-but "I1" "/I") (refused-with 8 39 769)) ∷
     message (m1-but "E1" "E//1") (refused-with 8 40 650) ∷
-    message (m5-but "BBBBLULL" "BBBB1ULL") (refused-with 8 31 892) ∷
+    archived (message (m5-but "BBBBLULL" "BBBB1ULL") (refused-with 8 31 892)) ∷
     message (m1-but "A Weis" "") (refused-with 6 25 737) ∷
     message (m1-but "LU699871234567898765" "GB29NWBK60161331926819") (refused-with 8 28 773) ∷
-    message (m5-but "C Meyer" "") (refused-with 6 35 1040) ∷
-    message (m5-but "GDDS" "GDDSS") (refused-with 6 21 1074) ∷
-    message (m5-but "SCOR" "SEPA") (refused-with 8 19 1135) ∷
-    message (m5-but "ISO" "") (refused-with 6 54 1160) ∷
-    message (m5-but "RF18" " ") (refused-with 8 55 1181) ∷
-    message (but "Travel 12" "Travel_12" m4) (refused-with 7 49 1111) ∷ []
+    archived (message (m5-but "C Meyer" "") (refused-with 6 35 1040)) ∷
+    archived (message (m5-but "GDDS" "GDDSS") (refused-with 6 21 1074)) ∷
+    archived (message (m5-but "SCOR" "SEPA") (refused-with 8 19 1135)) ∷
+    archived (message (m5-but "ISO" "") (refused-with 6 54 1160)) ∷
+    archived (message (m5-but "RF18" " ") (refused-with 8 55 1181)) ∷
+    either-way (but "Travel 12" "Travel_12" m4) (refused-with 7 49 1111) ∷ []
 
 -- 6 to 8 are one walk in the order of the file: a value further up comes before a length further down.
 unfoldable pub value-order-cases : List Case
@@ -80,18 +80,18 @@ value-order-cases =
 unfoldable pub usage-cases : List Case
 usage-cases =
     message (m1-but "</PmtId>" "</PmtId><PmtTpInf><SvcLvl><Cd>SEPA</Cd></SvcLvl></PmtTpInf>") (refused-with 9 16 685) ∷
-    message (m5-but "</Amt>" "</Amt><ChrgBr>SLEV</ChrgBr>") (refused-with 9 36 871) ∷
+    archived (message (m5-but "</Amt>" "</Amt><ChrgBr>SLEV</ChrgBr>") (refused-with 9 36 871)) ∷
     message (m1-but "</Amt>" "</Amt><UltmtDbtr><Nm>Study 12</Nm></UltmtDbtr>") (refused-with 9 34 731) ∷
     message (m1-but "</Amt>" "</Amt><ChrgBr>SLEV</ChrgBr>") (accepted 1 2 3510) ∷
     message (m1-but "<PmtTpInf><SvcLvl><Cd>SEPA</Cd></SvcLvl></PmtTpInf>" "") (refused-with 10 16 579) ∷
     message (but "</PmtId>" "</PmtId><PmtTpInf><SvcLvl><Cd>SEPA</Cd></SvcLvl></PmtTpInf>" (m1-but "<PmtTpInf><SvcLvl><Cd>SEPA</Cd></SvcLvl></PmtTpInf>" ""))
     (refused-with 10 16 837) ∷
     -- all three in one payment; 36 and 34; 10 and 36
-    message (but "</PmtId>" "</PmtId><PmtTpInf><SvcLvl><Cd>SEPA</Cd></SvcLvl></PmtTpInf>"
-    (m5-but "</Amt>" "</Amt><ChrgBr>SLEV</ChrgBr><UltmtDbtr><Nm>x</Nm></UltmtDbtr>")) (refused-with 9 16 825) ∷
-    message (m5-but "</Amt>" "</Amt><ChrgBr>SLEV</ChrgBr><UltmtDbtr><Nm>x</Nm></UltmtDbtr>") (refused-with 9 36 871) ∷
-    message (but "<PmtTpInf><InstrPrty>HIGH</InstrPrty><SvcLvl><Cd>SEPA</Cd></SvcLvl><CtgyPurp><Cd>SALA</Cd></CtgyPurp></PmtTpInf>" ""
-    (m5-but "</Amt>" "</Amt><ChrgBr>SLEV</ChrgBr>")) (refused-with 10 16 637) ∷
+    archived (message (but "</PmtId>" "</PmtId><PmtTpInf><SvcLvl><Cd>SEPA</Cd></SvcLvl></PmtTpInf>"
+    (m5-but "</Amt>" "</Amt><ChrgBr>SLEV</ChrgBr><UltmtDbtr><Nm>x</Nm></UltmtDbtr>")) (refused-with 9 16 825)) ∷
+    archived (message (m5-but "</Amt>" "</Amt><ChrgBr>SLEV</ChrgBr><UltmtDbtr><Nm>x</Nm></UltmtDbtr>") (refused-with 9 36 871)) ∷
+    archived (message (but "<PmtTpInf><InstrPrty>HIGH</InstrPrty><SvcLvl><Cd>SEPA</Cd></SvcLvl><CtgyPurp><Cd>SALA</Cd></CtgyPurp></PmtTpInf>" ""
+    (m5-but "</Amt>" "</Amt><ChrgBr>SLEV</ChrgBr>")) (refused-with 10 16 637)) ∷
     -- 34 in the first payment, 16 in the second
     message (but "E2</EndToEndId></PmtId>" "E2</EndToEndId></PmtId><PmtTpInf><SvcLvl><Cd>SEPA</Cd></SvcLvl></PmtTpInf>"
     (m1-but "</Amt>" "</Amt><UltmtDbtr><Nm>x</Nm></UltmtDbtr>")) (refused-with 9 34 731) ∷

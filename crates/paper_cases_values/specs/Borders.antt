@@ -9,7 +9,7 @@ use mathlib.Core.Path.{_≡_}
 use Rattle.paper.specs.Bytes.{if_then_else_, bytes, white, text-byte, capital, digit, letter, letter-or-digit, capital-or-digit, value-character}
 use Rattle.paper.specs.Rows.{Profile, first-profile, instant-profile, row-of}
 use Rattle.paper.specs.Values.{allowed, number, cents}
-use Rattle.paper.specs.Refusals.{Refusal, refuse, leaf-refusal}
+use Rattle.paper.specs.Refusals.{Refusal, refuse, text-refusal}
 use Rattle.paper.specs.Host.{four-bytes, numbers-held}
 
 -- so many numbers from one on; so many times one number
@@ -40,7 +40,7 @@ each-says answer texts = map (λ w. answer) texts
 -- a leaf that stands at offset 7 and holds so many spaces
 unfoldable pub of-spaces : Profile → (parent row size : ℕ) → Option Refusal
 of-spaces profile parent row size =
-    leaf-refusal parent (row-of profile parent row) (record { name = []; currency = []; at = 7; start = 70; close = 70 + size }) (repeat size 32)
+    text-refusal parent (row-of profile parent row) (record { name = []; currency = []; at = 7; start = 70; close = 70 + size }) (repeat size 32)
 
 pub data Case : Type 0 where
   -- texts that a row under a parent allows, and texts that it doesn't; the same for row 42 with a currency
