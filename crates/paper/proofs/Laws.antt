@@ -14,7 +14,7 @@ use Rattle.paper.specs.Bytes.{Every, every-none, every-more, every, same
 use Rattle.paper.specs.Form.{Element}
 use Rattle.paper.specs.Values.{among}
 use Rattle.paper.specs.Payments.{either-of}
-use Rattle.paper.specs.Refusals.{Refusal}
+use Rattle.paper.specs.Refusals.{Refusal, _or-else_}
 use Rattle.paper.specs.Accepted.{All, all-none, all-more}
 
 -- two values that can't be equal
@@ -23,6 +23,11 @@ false-not-true e = let z : _≡_ {A = ℕ} 0 1 = cc in absurd (omega arith)
 
 pub some-not-none : {A B : Type 0} {a : A} → some a ≡ none → B
 some-not-none e = let z : _≡_ {A = ℕ} 0 1 = cc in absurd (omega arith)
+
+-- the second of two tests
+pub or-right : (a : Bool) {b : Bool} → b ≡ true → (a || b) ≡ true
+or-right true e = refl
+or-right false e = e
 
 -- both of two tests
 pub both-left : (a b : Bool) → (a && b) ≡ true → a ≡ true
@@ -93,6 +98,18 @@ among-says n (k ∷ ks) e = go (eqb n k) refl e (λ f. among-says n ks f)
     go true p q below = List·Memᴰ·head (eqb-true n k p)
     go false p q below = List·Memᴰ·tail (below q)
 
+pub among-member : {n : ℕ} {ks : List ℕ} → List·Memᴰ n ks → among n ks ≡ true
+unfolding among
+among-member {n} (List·Memᴰ·head {x = k} e) = rw (eq-eqb n k e)
+among-member {n} (List·Memᴰ·tail {x = k} m) = or-right (eqb n k) (among-member m)
+
+pub among-not : (n : ℕ) (ks : List ℕ) → (List·Memᴰ n ks → ⊥) → among n ks ≡ false
+among-not n ks m = go (among n ks) refl
+  where
+    go : (t : Bool) → among n ks ≡ t → t ≡ false
+    go true e = absurd (m (among-says n ks e))
+    go false e = refl
+
 -- of two lists, one after the other
 pub all-joined : {A : Type 0} {P : A → Type 0} {l m : List A} → All P l → All P m → All P (l ++ m)
 all-joined all-none k = k
@@ -123,3 +140,13 @@ pub either-none : (o : Option Element) → either-of o none ≡ o
 unfolding either-of
 either-none none = refl
 either-none (some t) = refl
+
+-- the first of two that refuses, where one does not
+pub none-or-else : {a b : Option Refusal} → a ≡ none → a or-else b ≡ b
+unfolding _or-else_
+none-or-else e = rw e
+
+pub or-else-none : (a : Option Refusal) → a or-else none ≡ a
+unfolding _or-else_
+or-else-none none = refl
+or-else-none (some x) = refl

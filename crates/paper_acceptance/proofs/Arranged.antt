@@ -6,8 +6,6 @@ use mathlib.Core.Bool.{Bool, true, false, _&&_}
 use mathlib.Core.Option.{Option, none, some}
 use mathlib.Core.Path.{_≡_, refl, sym, subst}
 use mathlib.Core.Logic.{_⊎_, inl, inr, ⊎-elim}
-use lib.Dec.{eqb}
-use borrow.Author.Tests.{eqb-true}
 use Rattle.paper.specs.Bytes.{if_then_else_, same}
 use Rattle.paper.specs.Rows.{Place, one, opt, plus, either, name, Arranged, end, exactly-one, there, not-there, the-last, one-before, chosen}
 use Rattle.paper.specs.Values.{among}
@@ -71,13 +69,13 @@ early-or : (t : Bool) (a : ℕ) (q : Sought) {k : ℕ} {left : Left} → (if t t
 early-or true a q e = let z : _≡_ {A = ℕ} 0 1 = cc in absurd (omega arith)
 early-or false a q e = (refl, e)
 
-past-found : (p : Place) (q : Sought) {k : ℕ} {left : Left} → past p q ≡ found k left → (required p ≡ false) × (q ≡ found k left)
+pub past-found : (p : Place) (q : Sought) {k : ℕ} {left : Left} → past p q ≡ found k left → (required p ≡ false) × (q ≡ found k left)
 unfolding past
 past-found p never e = let z : _≡_ {A = ℕ} 0 1 = cc in absurd (omega arith)
 past-found p (early j) e = early-or (required p) _ (early j) e
 past-found p (found j l) e = early-or (required p) _ (found j l) e
 
-named-in-says : (ks : List ℕ) (w : List ℕ) {k : ℕ} → named-in ks w ≡ some k → (w ≡ name k) × List·Memᴰ k ks
+pub named-in-says : (ks : List ℕ) (w : List ℕ) {k : ℕ} → named-in ks w ≡ some k → (w ≡ name k) × List·Memᴰ k ks
 unfolding named-in
 named-in-says [] w e = some-not-none (sym e)
 named-in-says (j ∷ ks) w {k} e = go (same w (name j)) refl (λ f. named-in-says ks w f) e

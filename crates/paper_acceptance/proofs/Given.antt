@@ -11,7 +11,7 @@ use Rattle.paper.specs.Form.{Head, Element, Elements, holding-text, holding-ele
 use Rattle.paper.specs.Rows.{Place, Contents, text, elements, Row, Profile, row-of, head-of}
 use Rattle.paper.specs.Payments.{Payment, text-of, all-of, blocks, block-id, payments, in-payment, in-block, total}
 use Rattle.paper.specs.Refusals.{Refusal, refuse, _or-else_, Left, from-here, missing, ends, only-white, first-at, Sought, never, early, found, seek, no-judgement, walk, walk-all, rows-refusal, values-refusal, sixty-fifth, too-many, limits-refusal, in-both, in-neither, usage-of, usage, usage-refusal, among-texts, repeated, ids-refusal, total-refusal, unless, block-counts, counts-refusal}
-use Rattle.paper_acceptance.proofs.OneWalk.{Kept, as-found, of-a-leaf, one-walk}
+use Rattle.paper_acceptance.proofs.OneWalk.{Kept, as-found, of-a-value, one-walk}
 
 -- a refusal, if there is one, has one of these numbers
 pub data Gives (ns : List ℕ) : Option Refusal → Type 0 where
@@ -49,55 +49,58 @@ ends-gives left close = go (missing left)
     go none = gives-none
     go (some first) = refuse-gives _ _ second-number
 
-text-gives : (holds : Contents) (parent : ℕ) (r : Row) (h : Head) (w : List ℕ)
-    → Gives three-four (elim holds [ text longest ↦ no-judgement parent r h w | elements places ↦ only-white (r .row) places h w ])
-unfolding no-judgement only-white
-text-gives (text longest) parent r h w = gives-none
-text-gives (elements places) parent r h w = if-gives (every white w) (ends-gives (from-here places) (h .close)) (refuse-gives _ _ first-number)
+text-gives : (holds : Contents) (r : Row) (h : Head) (w : List ℕ)
+    → Gives three-four (elim holds [ text longest ↦ none | elements places ↦ only-white (r .row) places h w ])
+unfolding only-white
+text-gives (text longest) r h w = gives-none
+text-gives (elements places) r h w = if-gives (every white w) (ends-gives (from-here places) (h .close)) (refuse-gives _ _ first-number)
 
 module _ (profile : Profile) where
-  elements-gives : (holds : Contents) (r : Row) (h : Head) (ts : Elements)
-      → ((places : List Place) → Gives three-four (walk-all profile no-judgement ts (r .row) (from-here places) (h .close)))
+  elements-gives : (holds : Contents) (r : Row) (h : Head) (ts : Elements) (holder : Element)
+      → ((places : List Place) → Gives three-four (walk-all profile no-judgement ts holder (r .row) (from-here places) (h .close)))
       → Gives three-four
-      (elim holds [ text longest ↦ refuse 3 (r .row) (first-at ts (h .start)) | elements places ↦ walk-all profile no-judgement ts (r .row) (from-here places) (h .close) ])
-  elements-gives (text longest) r h ts below = refuse-gives _ _ first-number
-  elements-gives (elements places) r h ts below = below places
+      (elim holds [ text longest ↦ refuse 3 (r .row) (first-at ts (h .start)) | elements places ↦ walk-all profile no-judgement ts holder (r .row) (from-here places) (h .close) ])
+  elements-gives (text longest) r h ts holder below = refuse-gives _ _ first-number
+  elements-gives (elements places) r h ts holder below = below places
 
-  child-gives : (t : Element) (ts : Elements) (row close : ℕ) (q : Sought) → ((k : ℕ) → Gives three-four (walk profile no-judgement t row (row-of profile row k)))
-      → ((left : Left) → Gives three-four (walk-all profile no-judgement ts row left close))
+  child-gives : (t : Element) (ts : Elements) (holder : Element) (row close : ℕ) (q : Sought)
+      → ((k : ℕ) → Gives three-four (walk profile no-judgement t (some holder) row (row-of profile row k)))
+      → ((left : Left) → Gives three-four (walk-all profile no-judgement ts holder row left close))
       → Gives three-four
       (elim q [
         | never ↦ refuse 3 row (head-of t .at)
         | early first ↦ refuse 4 first (head-of t .at)
-        | found k left ↦ walk profile no-judgement t row (row-of profile row k) or-else walk-all profile no-judgement ts row left close
+        | found k left ↦ walk profile no-judgement t (some holder) row (row-of profile row k) or-else walk-all profile no-judgement ts holder row left close
       ])
-  child-gives t ts row close never one others = refuse-gives _ _ first-number
-  child-gives t ts row close (early first) one others = refuse-gives _ _ second-number
-  child-gives t ts row close (found k left) one others = or-gives (one k) (others left)
+  child-gives t ts holder row close never one others = refuse-gives _ _ first-number
+  child-gives t ts holder row close (early first) one others = refuse-gives _ _ second-number
+  child-gives t ts holder row close (found k left) one others = or-gives (one k) (others left)
 
   mutual
-    unfolding walk
+    unfolding walk no-judgement _or-else_
 
-    walk-gives : (t : Element) (parent : ℕ) (r : Row) → Gives three-four (walk profile no-judgement t parent r)
-    walk-gives (holding-text h w) parent r = text-gives (r .holds) parent r h w
-    walk-gives (holding-elements h ts) parent r = elements-gives (r .holds) r h ts (λ places. all-gives ts (r .row) (from-here places) (h .close))
+    walk-gives : (t : Element) (holder : Option Element) (parent : ℕ) (r : Row) → Gives three-four (walk profile no-judgement t holder parent r)
+    walk-gives (holding-text h w) holder parent r = text-gives (r .holds) r h w
+    walk-gives (holding-elements h ts) holder parent r =
+        elements-gives (r .holds) r h ts (holding-elements h ts) (λ places. all-gives ts (holding-elements h ts) (r .row) (from-here places) (h .close))
 
-    all-gives : (ts : Elements) (row : ℕ) (left : Left) (close : ℕ) → Gives three-four (walk-all profile no-judgement ts row left close)
-    all-gives []ᵉ row left close = ends-gives left close
-    all-gives (t ∷ᵉ ts) row left close =
-        child-gives t ts row close (seek left (head-of t .name)) (λ k. walk-gives t row (row-of profile row k)) (λ behind. all-gives ts row behind close)
+    all-gives : (ts : Elements) (holder : Element) (row : ℕ) (left : Left) (close : ℕ) → Gives three-four (walk-all profile no-judgement ts holder row left close)
+    all-gives []ᵉ holder row left close = ends-gives left close
+    all-gives (t ∷ᵉ ts) holder row left close =
+        child-gives t ts holder row close (seek left (head-of t .name)) (λ k. walk-gives t (some holder) row (row-of profile row k))
+        (λ behind. all-gives ts holder row behind close)
 
   pub rows-give : (root : Element) → Gives three-four (rows-refusal profile root)
   unfolding rows-refusal
-  rows-give root = walk-gives root 0 (row-of profile 0 1)
+  rows-give root = walk-gives root none 0 (row-of profile 0 1)
 
-  -- 6 to 8, where 3 and 4 refused nothing
-  pub values-give : (root : Element) → rows-refusal profile root ≡ none → Gives (6 ∷ 7 ∷ 8 ∷ []) (values-refusal profile root)
+  -- 6 to 8 and 28, where 3 and 4 refused nothing
+  pub values-give : (root : Element) → rows-refusal profile root ≡ none → Gives (6 ∷ 7 ∷ 8 ∷ 28 ∷ []) (values-refusal profile root)
   values-give root e = go (one-walk profile root) e
     where
-      go : {a b : Option Refusal} → Kept a b → b ≡ none → Gives (6 ∷ 7 ∷ 8 ∷ []) a
-      go (as-found p) q = subst (λ (o : Option Refusal). Gives (6 ∷ 7 ∷ 8 ∷ []) o) (sym p) (subst (λ (o : Option Refusal). Gives (6 ∷ 7 ∷ 8 ∷ []) o) (sym q) gives-none)
-      go (of-a-leaf m) q = gives-one m
+      go : {a b : Option Refusal} → Kept a b → b ≡ none → Gives (6 ∷ 7 ∷ 8 ∷ 28 ∷ []) a
+      go (as-found p) q = subst (λ (o : Option Refusal). Gives (6 ∷ 7 ∷ 8 ∷ 28 ∷ []) o) (sym p) (subst (λ (o : Option Refusal). Gives (6 ∷ 7 ∷ 8 ∷ 28 ∷ []) o) (sym q) gives-none)
+      go (of-a-value m) q = gives-one m
 
 -- 5
 sixty-fifth-gives : (n : ℕ) (ts : List Element) → Gives (5 ∷ []) (sixty-fifth n ts)

@@ -3,20 +3,20 @@ use Prim.Native.Nat.{ℕ, zero, suc}
 use mathlib.Core.List.{List, [], _∷_, map}
 use mathlib.Core.Bool.{Bool, true, false, _&&_}
 use mathlib.Core.Option.{Option, none, some}
-use mathlib.Core.Path.{_≡_, refl, sym, ap, _∙_}
+use mathlib.Core.Path.{_≡_, refl, sym, ap, _∙_, subst}
 use lib.ListN.{take, drop, getD}
 use lib.Dec.{eqb}
 use Rattle.paper.specs.Bytes.{if_then_else_, same}
-use Rattle.paper.specs.Form.{Head, Element, holding-text, holding-elements}
-use Rattle.paper.specs.Rows.{Contents, text, elements, Row, Profile, row-of, Arranged, Conforms, Conform}
+use Rattle.paper.specs.Form.{Head, Element, holding-text}
+use Rattle.paper.specs.Rows.{Profile, row-of}
 use Rattle.paper.specs.Payments.{Payment, text-of, child, follow, payments, in-payment, in-block, either-of, inherited}
 use Rattle.paper.specs.Refusals.{accepted-with, among-texts, outcome-alone}
 use Rattle.paper.specs.Table.{part-of, pairs}
 use Rattle.paper.specs.Fields.{Field, plain, or-means, amount-field, remittance, fields, field-element, field-of}
-use Rattle.paper.specs.Accepted.{All, all-none, all-more, EachWith, each-none, each-more, AnyText, RowsKept, Accepted}
+use Rattle.paper.specs.Accepted.{All, all-none, all-more, EachWith, each-none, each-more, AnyElement, RowsKept, Accepted}
 use Rattle.paper.specs.Regrouping.{At, at-first, at-later}
 use Rattle.paper.proofs.Laws.{false-not-true, some-not-none, both, both-left, both-right, all-member, all-from}
-use Rattle.paper_acceptance.proofs.Routes.{takes, lacks, holds-text, leaf-route, child-absent, step}
+use Rattle.paper_acceptance.proofs.Routes.{takes, lacks, leaf-route, child-absent, step, leaf-conforms}
 use Rattle.paper_acceptance.proofs.Proper.{Proper, one-route, block-leaf-routes, payment-leaf-routes}
 use Rattle.paper_acceptance.proofs.Present.{As, PaymentAs, payments-as}
 use Rattle.paper_acceptance.proofs.Accepts.{accepted-from}
@@ -38,19 +38,10 @@ leaf-pairs = true ∷ true ∷ true ∷ true ∷ false ∷ true ∷ []
 
 -- a route whose test says so leads to a leaf, if it leads anywhere
 module _ (profile : Profile) (proper : Proper profile) where
-  text-leaf : (t : Element) (parent : ℕ) (r : Row) → holds-text (r .holds) ≡ true → Conforms profile AnyText t parent r → LeafOrNone (some t)
-  unfolding Conforms holds-text
-  text-leaf (holding-text h w) parent r e c = a-leaf
-  text-leaf (holding-elements h ts) parent r e c = absurd (go (r .holds) e c)
-    where
-      go : (holds : Contents) → holds-text holds ≡ true
-          → (elim holds as (λ _. Type 0) [ text longest ↦ ⊥ | elements places ↦ (ks : List ℕ) × Arranged places ks × Conform profile AnyText ts (r .row) ks ]) → ⊥
-      go (text longest) e c = c
-      go (elements places) e c = false-not-true e
-
-  route-leaf : (parent k : ℕ) (route : List ℕ) (t : Element) → leaf-route profile parent k route ≡ true → As profile proper AnyText parent k t → LeafOrNone (follow route t)
+  route-leaf : (parent k : ℕ) (route : List ℕ) (t : Element) → leaf-route profile parent k route ≡ true → As profile proper AnyElement parent k t → LeafOrNone (follow route t)
   unfolding leaf-route follow
-  route-leaf parent k [] t e c = text-leaf t parent (row-of profile parent k) e c
+  route-leaf parent k [] t e c =
+      subst (λ (u : Element). LeafOrNone (some u)) (sym (leaf-conforms profile AnyElement t (c .0) parent (row-of profile parent k) e (c .1))) a-leaf
   route-leaf parent k (j ∷ js) t e c = go (takes (row-of profile parent k) j) refl e (λ u f d. route-leaf k j js u f d)
     where
       below : (o : Option Element) → ((u : Element) → o ≡ some u → LeafOrNone (follow js u)) → LeafOrNone (elim o as (λ _. Option Element) [ none ↦ none | some u ↦ follow js u ])
@@ -59,14 +50,14 @@ module _ (profile : Profile) (proper : Proper profile) where
 
       go : (b : Bool) → takes (row-of profile parent k) j ≡ b
           → (if b then eqb (row-of profile parent k .row) k && leaf-route profile k j js else lacks (row-of profile parent k) j) ≡ true
-          → ((u : Element) → leaf-route profile k j js ≡ true → As profile proper AnyText k j u → LeafOrNone (follow js u))
+          → ((u : Element) → leaf-route profile k j js ≡ true → As profile proper AnyElement k j u → LeafOrNone (follow js u))
           → LeafOrNone (elim (child j t) as (λ _. Option Element) [ none ↦ none | some u ↦ follow js u ])
       go true f e ih =
           let its-own = both-left (eqb (row-of profile parent k .row) k) _ e in
-          below (child j t) (λ u g. ih u (both-right (eqb (row-of profile parent k .row) k) _ e) (step profile AnyText (proper .apart) parent k j t u (both its-own f) c g))
-      go false f e ih = rw (child-absent profile AnyText t parent (row-of profile parent k) j e c) nothing-there
+          below (child j t) (λ u g. ih u (both-right (eqb (row-of profile parent k .row) k) _ e) (step profile AnyElement (proper .apart) parent k j t u (both its-own f) c g))
+      go false f e ih = rw (child-absent profile AnyElement t (c .0) parent (row-of profile parent k) j e (c .1)) nothing-there
 
-  module _ (p : Payment) (c : PaymentAs profile proper AnyText p) where
+  module _ (p : Payment) (c : PaymentAs profile proper AnyElement p) where
     own-leaf : (route : List ℕ) → among-texts route payment-leaf-routes ≡ true → LeafOrNone (in-payment route p)
     unfolding in-payment
     own-leaf route m = route-leaf 10 37 route (p .own) (one-route (leaf-route profile 10 37) payment-leaf-routes (proper .payment-leaves) route m) (c .own-as)
@@ -142,12 +133,12 @@ fields-have (all-more i h) (all-more l k) = all-more (leaf-has i l) (fields-have
 pub accepted-texts : (profile : Profile) → Proper profile → {s : List ℕ} {root : Element} → outcome-alone profile s ≡ accepted-with root → All (PaymentTexts s) (payments root)
 unfolding accepted-from RowsKept
 accepted-texts profile proper {s} {root} o =
-    all-from (λ p m. texts p (all-member (payments-in-place (accepted .form)) m) (all-member (payments-as profile proper AnyText root (accepted .tree .but-counts .rows)) m))
+    all-from (λ p m. texts p (all-member (payments-in-place (accepted .form)) m) (all-member (payments-as profile proper AnyElement root (none, accepted .tree .but-counts .rows)) m))
   where
     accepted : Accepted profile s
     accepted = accepted-from profile proper s root o
 
-    texts : (p : Payment) → PaymentInPlace s p → PaymentAs profile proper AnyText p → PaymentTexts s p
+    texts : (p : Payment) → PaymentInPlace s p → PaymentAs profile proper AnyElement p → PaymentTexts s p
     texts p i c = record { of-pairs = pairs-have (pairs-stand p i) (pairs-leaves profile proper p c); of-fields = fields-have (fields-stand p i) (fields-leaves profile proper p c) }
 
 -- What holds of each field of a payment, and of nothing, holds of the field that a number asks for.

@@ -12,7 +12,7 @@ use Rattle.paper.specs.Bytes.{if_then_else_}
 use Rattle.paper.specs.Sizes.{largest-message, least-table}
 use Rattle.paper.specs.Form.{Element, OfTheForm, FirstImpossible}
 use Rattle.paper.specs.Computed.Reading.{Reading, root-is, stops-at, read}
-use Rattle.paper.specs.Rows.{Row, Profile}
+use Rattle.paper.specs.Rows.{Profile}
 use Rattle.paper.specs.Values.{among}
 use Rattle.paper.specs.Refusals.{Refusal, _or-else_, table-refusal, size-refusal, tree-refusal, Outcome, refused-as, accepted-with, unless-refused, of-reading, outcome-alone, outcome, MessageAnswer, refused, accepted, answer-to, verdict}
 use Rattle.paper.specs.Accepted.{All, all-none, all-more, RowsKept, LimitsKept, ValuesRight, UsageKept, IdsApart, TotalFits, CountsTrue, Accepted}
@@ -43,7 +43,7 @@ each-number for-size = all-more refl all-none
 each-number for-form = all-more refl all-none
 each-number for-rows = all-more refl (all-more refl all-none)
 each-number for-limits = all-more refl all-none
-each-number for-values = all-more refl (all-more refl (all-more refl all-none))
+each-number for-values = all-more refl (all-more refl (all-more refl (all-more refl all-none)))
 each-number for-usage = all-more refl (all-more refl all-none)
 each-number for-ids = all-more refl all-none
 each-number for-total = all-more refl all-none

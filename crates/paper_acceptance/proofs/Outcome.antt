@@ -17,7 +17,7 @@ use Rattle.paper.specs.Computed.Reading.{Reading, root-is, stops-at, read}
 use Rattle.paper.specs.Rows.{Profile}
 use Rattle.paper.specs.Payments.{Payment, all-of, blocks}
 use Rattle.paper.specs.Refusals.{Refusal, refuse, Outcome, accepted-with, unless-refused, of-reading, tree-refusal, outcome-alone, outcome, size-refusal, table-refusal, among-texts}
-use Rattle.paper.specs.Accepted.{All, all-none, all-more, AnyText, RowsKept, AcceptedTree}
+use Rattle.paper.specs.Accepted.{All, all-none, all-more, AnyElement, RowsKept, AcceptedTree}
 use Rattle.paper.proofs.Laws.{both-left, all-map}
 use Rattle.paper_acceptance.proofs.Rows.{neither, or-none, refuses}
 use Rattle.paper_acceptance.proofs.Routes.{steps, step-all}
@@ -27,23 +27,23 @@ use Rattle.paper_acceptance.proofs.Stages.{HasAmount, own-elements, row
 
 -- where the rows are kept, each payment has its amount
 module _ (profile : Profile) (proper : Proper profile) (root : Element) (kept : RowsKept profile root) where
-  has-amount : (t : Element) → As profile proper AnyText 10 37 t → HasAmount t
+  has-amount : (t : Element) → As profile proper AnyElement 10 37 t → HasAmount t
   unfolding among-texts same
-  has-amount t c = stands profile proper AnyText 10 37 (41 ∷ 42 ∷ []) t (payment-route proper _ refl) c
+  has-amount t c = stands profile proper AnyElement 10 37 (41 ∷ 42 ∷ []) t (payment-route proper _ refl) c
 
-  own-all : {ps : List Payment} → All (PaymentAs profile proper AnyText) ps → All HasAmount (map (λ p. p .own) ps)
+  own-all : {ps : List Payment} → All (PaymentAs profile proper AnyElement) ps → All HasAmount (map (λ p. p .own) ps)
   own-all all-none = all-none
   own-all (all-more {a = p} c h) = all-more (has-amount (p .own) (c .own-as)) (own-all h)
 
   pub amounts-there : All HasAmount (own-elements root)
   unfolding RowsKept
-  amounts-there = own-all (payments-as profile proper AnyText root kept)
+  amounts-there = own-all (payments-as profile proper AnyElement root (none, kept))
 
   pub block-amounts-there : All (λ b. All HasAmount (all-of 37 b)) (blocks root)
   unfolding RowsKept steps
   block-amounts-there =
-      all-map (λ b c. all-map has-amount (step-all profile AnyText (proper .apart) 2 10 37 b (both-left _ _ (proper .to-payments)) c))
-      (blocks-as profile proper AnyText root kept)
+      all-map (λ b c. all-map has-amount (step-all profile AnyElement (proper .apart) 2 10 37 b (both-left _ _ (proper .to-payments)) c))
+      (blocks-as profile proper AnyElement root (none, kept))
 
 module _ (profile : Profile) (proper : Proper profile) where
   -- all stages over the tree

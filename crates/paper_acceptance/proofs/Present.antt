@@ -6,21 +6,20 @@ use mathlib.Core.Option.{Option, none, some}
 use mathlib.Core.Path.{_≡_, refl, sym, ap, _∙_, subst}
 use mathlib.Core.Logic.{⊎-elim, _⊎_, inl, inr}
 use Rattle.paper.specs.Bytes.{same}
-use Rattle.paper.specs.Form.{Head, Element}
-use Rattle.paper.specs.Rows.{Row, Profile, row-of, Conforms}
+use Rattle.paper.specs.Form.{Element}
+use Rattle.paper.specs.Rows.{Row, Profile, row-of}
 use Rattle.paper.specs.Payments.{Payment, all-of, child, follow, blocks, of-header, header-count, header-sum, block-id, block-count, block-sum, instructed-amount, payments, payments-of, payments-from, in-payment, in-block, either-of, inherited}
 use Rattle.paper.specs.Refusals.{among-texts}
 use Rattle.paper.specs.Fields.{plain, or-means, amount-field, remittance, fields}
 use Rattle.paper.specs.Table.{pairs, must-be-there, PairsThere}
-use Rattle.paper.specs.Accepted.{All, all-none, all-more, EachWith, each-none, each-more, There, AnyText, RowsKept, Used, UsageKept, AcceptedTree}
+use Rattle.paper.specs.Accepted.{All, all-none, all-more, EachWith, each-none, each-more, There, AnyElement, RowsKept, Used, UsageKept, AcceptedTree}
 use Rattle.paper.proofs.Laws.{false-not-true, some-not-none, both-left, both-right, all-joined, all-map}
-use Rattle.paper_acceptance.proofs.Routes.{must-take, steps, step-all, choice-there, follow-conforms, follow-there, EndsAs}
-use Rattle.paper_acceptance.proofs.Proper.{leads, Proper, root-route, block-route, payment-route}
+use Rattle.paper_acceptance.proofs.Routes.{must-take, steps, step-all, choice-there, follow-conforms, follow-there, StandsAs, EndsAs}
+use Rattle.paper_acceptance.proofs.Proper.{leads, Proper, root-route, block-route, payment-route, bic-or-not, to-not-provided}
 
-module _ (profile : Profile) (proper : Proper profile) (Right : (parent : ℕ) → Row → Head → List ℕ → Type 0) where
-  -- an element that conforms to row k under a parent
+module _ (profile : Profile) (proper : Proper profile) (Right : (holder : Option Element) (parent : ℕ) → Row → Element → Type 0) where
   abbrev pub As : (parent k : ℕ) → Element → Type 0
-  As parent k t = Conforms profile Right t parent (row-of profile parent k)
+  As parent k t = StandsAs profile Right parent k t
 
   pub stands : (parent k : ℕ) (route : List ℕ) (t : Element) → leads profile parent k route ≡ true → As parent k t → There (follow route t)
   stands parent k route t e c =
@@ -92,16 +91,16 @@ pub leaves-there : (profile : Profile) → Proper profile → (root : Element) �
 unfolding RowsKept of-header among-texts same
 leaves-there profile proper root kept =
     record {
-      count-there = stands profile proper AnyText 0 1 (2 ∷ 3 ∷ 6 ∷ []) root (root-route proper _ refl) kept;
-      sum-there = stands profile proper AnyText 0 1 (2 ∷ 3 ∷ 7 ∷ []) root (root-route proper _ refl) kept;
-      id-of-each = each-block (λ b c. child-of 11 b (stands profile proper AnyText 2 10 (11 ∷ []) b (block-route proper _ refl) c));
-      count-of-each = each-block (λ b c. child-of 14 b (stands profile proper AnyText 2 10 (14 ∷ []) b (block-route proper _ refl) c));
-      sum-of-each = each-block (λ b c. child-of 15 b (stands profile proper AnyText 2 10 (15 ∷ []) b (block-route proper _ refl) c));
-      amount-of-each = all-map (λ p c. stands profile proper AnyText 10 37 (41 ∷ 42 ∷ []) (p .own) (payment-route proper _ refl) (c .own-as)) (payments-as profile proper AnyText root kept);
+      count-there = stands profile proper AnyElement 0 1 (2 ∷ 3 ∷ 6 ∷ []) root (root-route proper _ refl) (none, kept);
+      sum-there = stands profile proper AnyElement 0 1 (2 ∷ 3 ∷ 7 ∷ []) root (root-route proper _ refl) (none, kept);
+      id-of-each = each-block (λ b c. child-of 11 b (stands profile proper AnyElement 2 10 (11 ∷ []) b (block-route proper _ refl) c));
+      count-of-each = each-block (λ b c. child-of 14 b (stands profile proper AnyElement 2 10 (14 ∷ []) b (block-route proper _ refl) c));
+      sum-of-each = each-block (λ b c. child-of 15 b (stands profile proper AnyElement 2 10 (15 ∷ []) b (block-route proper _ refl) c));
+      amount-of-each = all-map (λ p c. stands profile proper AnyElement 10 37 (41 ∷ 42 ∷ []) (p .own) (payment-route proper _ refl) (c .own-as)) (payments-as profile proper AnyElement root (none, kept));
     }
   where
-    each-block : {P : Element → Type 0} → ((b : Element) → As profile proper AnyText 2 10 b → P b) → All P (blocks root)
-    each-block f = all-map f (blocks-as profile proper AnyText root kept)
+    each-block : {P : Element → Type 0} → ((b : Element) → As profile proper AnyElement 2 10 b → P b) → All P (blocks root)
+    each-block f = all-map f (blocks-as profile proper AnyElement root (none, kept))
 
 -- No pair of an accepted payment's row is absent but the ultimate debtor's, the fourth.
 either-there : {o q : Option Element} → There o ⊎ There q → There (either-of o q)
@@ -109,7 +108,7 @@ unfolding either-of
 either-there {o = none} {q = q} h = ⊎-elim (λ t. some-not-none (sym (t .is-it))) (λ t. t) h
 either-there {o = some t} {q = q} h = record { it = t; is-it = refl }
 
-module _ (profile : Profile) (proper : Proper profile) (Right : (parent : ℕ) → Row → Head → List ℕ → Type 0) where
+module _ (profile : Profile) (proper : Proper profile) (Right : (holder : Option Element) (parent : ℕ) → Row → Element → Type 0) where
   pairs-there : (p : Payment) → PaymentAs profile proper Right p → Used p → PairsThere p
   unfolding PairsThere must-be-there pairs in-payment in-block inherited among-texts same
   pairs-there p c u =
@@ -128,7 +127,7 @@ both-of f (all-more p h) (all-more q k) = all-more (f _ p q) (both-of f h k)
 pub no-other-absent : (profile : Profile) → Proper profile → (root : Element) → AcceptedTree profile root → All PairsThere (payments root)
 unfolding RowsKept UsageKept
 no-other-absent profile proper root a =
-    both-of (pairs-there profile proper AnyText) (payments-as profile proper AnyText root (a .but-counts .rows)) (a .but-counts .usage)
+    both-of (pairs-there profile proper AnyElement) (payments-as profile proper AnyElement root (none, a .but-counts .rows)) (a .but-counts .usage)
 
 -- Nor is one of fields 4 to 7, 10, 11, 13 and 14.
 unfoldable pub never-absent : List Bool
@@ -138,25 +137,31 @@ never-absent =
 unfoldable pub FieldsThere : Payment → Type 0
 FieldsThere p = EachWith (λ must f. must ≡ true → There (f .element)) never-absent (fields p)
 
-follow-joined : (route : List ℕ) (k : ℕ) (t u v : Element) → follow route t ≡ some u → child k u ≡ some v → follow (route ++ (k ∷ [])) t ≡ some v
+-- a route and one row more
+pub follow-joined : (route : List ℕ) (k : ℕ) (t u : Element) {o : Option Element} → follow route t ≡ some u → child k u ≡ o → follow (route ++ (k ∷ [])) t ≡ o
 unfolding follow
-follow-joined [] k t u v e f = let g : t ≡ u = cc in follow-one k t v (ap (child k) g ∙ f)
-follow-joined (j ∷ route) k t u v e f = go (child j t) refl e (λ w g. follow-joined route k w u v g f)
+follow-joined [] k t u {o} e f = let g : t ≡ u = cc in last (child k t) (ap (child k) g ∙ f)
   where
-    go : (o : Option Element) → child j t ≡ o → _≡_ {A = Option Element} (elim o [ none ↦ none | some w ↦ follow route w ]) (some u)
-        → ((w : Element) → follow route w ≡ some u → follow (route ++ (k ∷ [])) w ≡ some v)
-        → _≡_ {A = Option Element} (elim o [ none ↦ none | some w ↦ follow (route ++ (k ∷ [])) w ]) (some v)
-    go none p q below = some-not-none (sym q)
-    go (some w) p q below = below w q
+    last : (p : Option Element) → p ≡ o → _≡_ {A = Option Element} (elim p [ none ↦ none | some v ↦ some v ]) o
+    last none q = q
+    last (some v) q = q
+follow-joined (j ∷ route) k t u {o} e f = go (child j t) e (λ w g. follow-joined route k w u g f)
+  where
+    go : (p : Option Element) → _≡_ {A = Option Element} (elim p [ none ↦ none | some w ↦ follow route w ]) (some u)
+        → ((w : Element) → follow route w ≡ some u → follow (route ++ (k ∷ [])) w ≡ o)
+        → _≡_ {A = Option Element} (elim p [ none ↦ none | some w ↦ follow (route ++ (k ∷ [])) w ]) o
+    go none q below = some-not-none (sym q)
+    go (some w) q below = below w q
 
-module _ (profile : Profile) (proper : Proper profile) (Right : (parent : ℕ) → Row → Head → List ℕ → Type 0) where
+module _ (profile : Profile) (proper : Proper profile) (Right : (holder : Option Element) (parent : ℕ) → Row → Element → Type 0) where
   -- at the end of a route that leads to row k under a parent one of some rows must be there
   one-at-end : (b : Element) → As profile proper Right 2 10 b → (route : List ℕ) (parent k : ℕ) (choice : List ℕ) → leads profile 2 10 route ≡ true
       → ((u : Element) → EndsAs profile Right 2 10 route u → As profile proper Right parent k u) → must-take (row-of profile parent k) choice ≡ true
       → (u : There (follow route b)) × (j : ℕ) × List·Memᴰ j choice × There (child j (u .it))
   one-at-end b c route parent k choice l ends must =
       let u = stands profile proper Right 2 10 route b l c in
-      let n = choice-there profile Right (u .it) parent (row-of profile parent k) choice must (ends (u .it) (ends-as profile proper Right 2 10 route b (u .it) l c (u .is-it))) in
+      let d = ends (u .it) (ends-as profile proper Right 2 10 route b (u .it) l c (u .is-it)) in
+      let n = choice-there profile Right (u .it) (d .0) parent (row-of profile parent k) choice must (d .1) in
       (u, n .0, n .1, n .2)
 
   -- of two rows the one or the other
@@ -164,7 +169,7 @@ module _ (profile : Profile) (proper : Proper profile) (Right : (parent : ℕ) �
   either-row P m h f g = ⊎-elim (λ e. f (subst P e h)) (λ n. g (subst P (List·Memᴰ·eq-of-singleton n) h)) (List·Memᴰ·cases-cons m)
 
   joined : (b : Element) (route : List ℕ) (u : There (follow route b)) (k : ℕ) → There (child k (u .it)) → There (follow (route ++ (k ∷ [])) b)
-  joined b route u k v = record { it = v .it; is-it = follow-joined route k b (u .it) (v .it) (u .is-it) (v .is-it) }
+  joined b route u k v = record { it = v .it; is-it = follow-joined route k b (u .it) (u .is-it) (v .is-it) }
 
   date-there : (b : Element) → As profile proper Right 2 10 b → There (either-of (follow (22 ∷ 23 ∷ []) b) (follow (22 ∷ 58 ∷ []) b))
   unfolding EndsAs among-texts same
@@ -176,7 +181,7 @@ module _ (profile : Profile) (proper : Proper profile) (Right : (parent : ℕ) �
   agent-there : (b : Element) → As profile proper Right 2 10 b → There (either-of (follow (29 ∷ 30 ∷ 31 ∷ []) b) (follow (29 ∷ 30 ∷ 32 ∷ 33 ∷ []) b))
   unfolding EndsAs among-texts same joined
   agent-there b c =
-      let n = one-at-end b c (29 ∷ 30 ∷ []) 29 30 (31 ∷ 32 ∷ []) agent-leads (λ u e. e) (proper .bic-or-not) in
+      let n = one-at-end b c (29 ∷ 30 ∷ []) 29 30 (31 ∷ 32 ∷ []) agent-leads (λ u e. e) (bic-or-not proper) in
       let u = n .0 in
       either-row (λ k. There (child k (u .it))) (n .2) (n .3) (λ bic. either-there (inl (joined b (29 ∷ 30 ∷ []) u 31 bic))) (λ other. either-there (inr (not-provided u other)))
     where
@@ -186,7 +191,7 @@ module _ (profile : Profile) (proper : Proper profile) (Right : (parent : ℕ) �
       not-provided : (u : There (follow (29 ∷ 30 ∷ []) b)) → There (child 32 (u .it)) → There (follow (29 ∷ 30 ∷ 32 ∷ 33 ∷ []) b)
       not-provided u v =
           let conforms = ends-as profile proper Right 2 10 (29 ∷ 30 ∷ []) b (u .it) agent-leads c (u .is-it) in
-          let d = follow-conforms profile Right (proper .apart) 29 30 (32 ∷ []) (u .it) (v .it) (proper .to-not-provided) conforms (follow-one 32 (u .it) (v .it) (v .is-it)) in
+          let d = follow-conforms profile Right (proper .apart) 29 30 (32 ∷ []) (u .it) (v .it) (to-not-provided proper) conforms (follow-one 32 (u .it) (v .it) (v .is-it)) in
           joined b (29 ∷ 30 ∷ 32 ∷ []) (joined b (29 ∷ 30 ∷ []) u 32 v) 33 (child-of 33 (v .it) (stands profile proper Right 30 32 (33 ∷ []) (v .it) (proper .not-provided) d))
 
   some-fields-there : (p : Payment) → PaymentAs profile proper Right p → FieldsThere p
@@ -212,4 +217,4 @@ module _ (profile : Profile) (proper : Proper profile) (Right : (parent : ℕ) �
 
 pub fields-there : (profile : Profile) → Proper profile → (root : Element) → RowsKept profile root → All FieldsThere (payments root)
 unfolding RowsKept
-fields-there profile proper root kept = all-map (some-fields-there profile proper AnyText) (payments-as profile proper AnyText root kept)
+fields-there profile proper root kept = all-map (some-fields-there profile proper AnyElement) (payments-as profile proper AnyElement root (none, kept))

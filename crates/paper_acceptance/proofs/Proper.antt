@@ -1,12 +1,13 @@
 -- What must be so of a profile for the theorems about messages: no two rows of a group have one name; some routes lead to an element, whatever the message, and others to
--- a leaf, if they lead to anything; leaves that are read as numbers are as long as they should be. These are computed tests, made here once for each profile.
+-- a leaf, if they lead to anything; leaves that are read as numbers are as long as they should be; the rows of the debtor's agent are what they are. These are computed tests, made
+-- here once for each list of rows.
 use Prim.Native.Nat.{ℕ}
 use mathlib.Core.List.{List, [], _∷_}
-use mathlib.Core.Bool.{Bool, true, false, _&&_, _||_}
+use mathlib.Core.Bool.{Bool, true, false, _&&_, _||_, not}
 use mathlib.Core.Path.{_≡_, refl, ap, _∙_}
 use lib.Dec.{eqb}
-use Rattle.paper.specs.Bytes.{if_then_else_, bytes, same}
-use Rattle.paper.specs.Rows.{leaf, group, group-under, rows, instant-changes, with-row, with-rows, instant-rows, every-row, Profile, first-profile, instant-profile, name-in, name, row-in, row-of}
+use Rattle.paper.specs.Bytes.{bytes, same}
+use Rattle.paper.specs.Rows.{either, leaf, group, group-under, rows, instant-changes, with-row, with-rows, instant-rows, every-row, Profile, for-new, for-archived, profile-by, first-profile, instant-profile, as-new, as-archived, name-in, name, row-in, row-of}
 use Rattle.paper.specs.Values.{among}
 use Rattle.paper.specs.Refusals.{rows-at, required, among-texts}
 use Rattle.paper.specs.Answers.{profile-named}
@@ -69,8 +70,6 @@ pub record Proper (profile : Profile) : Type 0 where
   pub block-leads : each-route (leads profile 2 10) block-routes ≡ true
   pub payment-leads : each-route (leads profile 10 37) payment-routes ≡ true
   pub date-or-time : must-take (row-of profile 10 22) (23 ∷ 58 ∷ []) ≡ true
-  pub bic-or-not : must-take (row-of profile 29 30) (31 ∷ 32 ∷ []) ≡ true
-  pub to-not-provided : steps profile 29 30 (32 ∷ []) ≡ true
   pub not-provided : leads profile 30 32 (33 ∷ []) ≡ true
   -- to leaves
   pub block-leaves : each-route (leaf-route profile 2 10) block-leaf-routes ≡ true
@@ -81,6 +80,10 @@ pub record Proper (profile : Profile) : Type 0 where
   pub block-count-is : row-of profile 10 14 ≡ leaf 14 "NbOfTxs" 15
   pub block-sum-is : row-of profile 10 15 ≡ leaf 15 "CtrlSum" 18
   pub amount-is : row-of profile 41 42 ≡ leaf 42 "InstdAmt" 18
+  -- the debtor's agent: one of two, and what each of them says
+  pub agent-is : row-of profile 29 30 ≡ group-under 29 30 "FinInstnId" (either (31 ∷ 32 ∷ []) ∷ [])
+  pub bic-is : row-of profile 30 31 ≡ leaf 31 "BICFI" 11
+  pub not-provided-is : row-of profile 32 33 ≡ leaf 33 "Id" 35
 
 module _ {profile : Profile} (proper : Proper profile) where
   pub root-route : (route : List ℕ) → among-texts route root-routes ≡ true → leads profile 0 1 route ≡ true
@@ -92,8 +95,17 @@ module _ {profile : Profile} (proper : Proper profile) where
   pub payment-route : (route : List ℕ) → among-texts route payment-routes ≡ true → leads profile 10 37 route ≡ true
   payment-route = one-route (leads profile 10 37) payment-routes (proper .payment-leads)
 
+  -- the debtor's agent holds a BIC or row 32
+  pub bic-or-not : must-take (row-of profile 29 30) (31 ∷ 32 ∷ []) ≡ true
+  unfolding must-take must all-among required rows-at among group-under
+  bic-or-not = rw (proper .agent-is)
+
+  pub to-not-provided : steps profile 29 30 (32 ∷ []) ≡ true
+  unfolding steps takes rows-of rows-at among group-under
+  to-not-provided = rw (proper .agent-is)
+
 pub first-proper : Proper first-profile
-unfolding first-profile rows instant-changes every-row name-in name row-in row-of leaf group group-under bytes same takes must-take lacks must all-among required rows-of rows-at among steps must-steps each-route holds-text leaf-route unlike all-unlike test-holds test-rows
+unfolding for-new first-profile rows instant-changes every-row name-in name row-in row-of leaf group group-under bytes same takes must-take lacks must all-among required rows-of rows-at among steps must-steps each-route holds-text leaf-route unlike all-unlike test-holds test-rows
 first-proper =
     record {
       apart = tested-apart first-profile refl;
@@ -104,8 +116,6 @@ first-proper =
       block-leads = refl;
       payment-leads = refl;
       date-or-time = refl;
-      bic-or-not = refl;
-      to-not-provided = refl;
       not-provided = refl;
       block-leaves = refl;
       payment-leaves = refl;
@@ -114,10 +124,13 @@ first-proper =
       block-count-is = refl;
       block-sum-is = refl;
       amount-is = refl;
+      agent-is = refl;
+      bic-is = refl;
+      not-provided-is = refl;
     }
 
 pub instant-proper : Proper instant-profile
-unfolding instant-profile rows instant-changes with-row with-rows instant-rows every-row name-in name row-in row-of leaf group group-under bytes same takes must-take lacks must all-among required rows-of rows-at among steps must-steps each-route holds-text leaf-route unlike all-unlike test-holds test-rows
+unfolding for-new instant-profile rows instant-changes with-row with-rows instant-rows every-row name-in name row-in row-of leaf group group-under bytes same takes must-take lacks must all-among required rows-of rows-at among steps must-steps each-route holds-text leaf-route unlike all-unlike test-holds test-rows
 instant-proper =
     record {
       apart = tested-apart instant-profile refl;
@@ -128,8 +141,6 @@ instant-proper =
       block-leads = refl;
       payment-leads = refl;
       date-or-time = refl;
-      bic-or-not = refl;
-      to-not-provided = refl;
       not-provided = refl;
       block-leaves = refl;
       payment-leaves = refl;
@@ -138,17 +149,58 @@ instant-proper =
       block-count-is = refl;
       block-sum-is = refl;
       amount-is = refl;
+      agent-is = refl;
+      bic-is = refl;
+      not-provided-is = refl;
     }
 
--- whichever profile is named, by a caller of the code or by a number
-pub either-proper : (b : Bool) → Proper (if b then instant-profile else first-profile)
-either-proper true = instant-proper
-either-proper false = first-proper
+-- The tests look at the rows alone: a profile is as proper for archived messages as for new ones.
+module _ {profile : Profile} (proper : Proper profile) where
+  pub whatever-withdrawn : (withdrawn : List ℕ) → Proper (record { rows = profile .rows; withdrawn = withdrawn })
+  unfolding row-of steps must-steps each-route leaf-route
+  whatever-withdrawn withdrawn =
+      record {
+        apart = proper .apart;
+        to-order = proper .to-order;
+        to-blocks = proper .to-blocks;
+        to-payments = proper .to-payments;
+        root-leads = proper .root-leads;
+        block-leads = proper .block-leads;
+        payment-leads = proper .payment-leads;
+        date-or-time = proper .date-or-time;
+        not-provided = proper .not-provided;
+        block-leaves = proper .block-leaves;
+        payment-leaves = proper .payment-leaves;
+        header-count-is = proper .header-count-is;
+        header-sum-is = proper .header-sum-is;
+        block-count-is = proper .block-count-is;
+        block-sum-is = proper .block-sum-is;
+        amount-is = proper .amount-is;
+        agent-is = proper .agent-is;
+        bic-is = proper .bic-is;
+        not-provided-is = proper .not-provided-is;
+      }
+
+  pub new-proper : Proper (as-new profile)
+  unfolding as-new for-new
+  new-proper = whatever-withdrawn (32 ∷ [])
+
+  pub archived-proper : Proper (as-archived profile)
+  unfolding as-archived for-archived
+  archived-proper = whatever-withdrawn []
+
+-- whichever profile is named, by a caller of the code or by numbers
+pub any-proper : (instant archived : Bool) → Proper (profile-by instant archived)
+unfolding profile-by as-archived first-profile instant-profile for-new
+any-proper true true = archived-proper instant-proper
+any-proper true false = instant-proper
+any-proper false true = archived-proper first-proper
+any-proper false false = first-proper
 
 pub named-proper : (p : named.Profile) → Proper (profile-named p)
 unfolding profile-named
-named-proper p = either-proper (p .instant)
+named-proper p = any-proper (p .instant) (p .archived)
 
-pub numbered-proper : (n : ℕ) → Proper (profile-numbered n)
+pub numbered-proper : (profile archived : ℕ) → Proper (profile-numbered profile archived)
 unfolding profile-numbered
-numbered-proper n = either-proper (eqb n 1)
+numbered-proper profile archived = any-proper (eqb profile 1) (not (eqb archived 0))

@@ -1,50 +1,69 @@
 -- What the walk of 6 to 8 leaves right: the leaves of the header and of the blocks, and the amounts, of a message in which it refuses nothing.
 use Prim.Native.Nat.{ℕ}
-use mathlib.Core.List.{List, [], _∷_}
+use native.Mathlib.Omega.{arith}
+use mathlib.Core.List.{[], _∷_}
 use mathlib.Core.Bool.{true}
-use mathlib.Core.Option.{none, some}
-use mathlib.Core.Path.{_≡_, refl}
+use mathlib.Core.Option.{Option, none, some}
+use mathlib.Core.Path.{_≡_, refl, ap, subst}
 use Rattle.paper.specs.Bytes.{same}
 use Rattle.paper.specs.Form.{Element}
-use Rattle.paper.specs.Rows.{Row, Profile, row-of, text, head-of}
+use Rattle.paper.specs.Rows.{Contents, text, elements, Row, Profile, row-of, head-of, Conforms}
 use Rattle.paper.specs.Payments.{child, follow, blocks, of-header, payments, text-of}
 use Rattle.paper.specs.Refusals.{values-refusal, among-texts}
-use Rattle.paper.specs.Accepted.{All, RightText, ValuesRight}
-use Rattle.paper_acceptance.proofs.Routes.{leaf-conforms, EndsAs}
+use Rattle.paper.specs.Accepted.{All, RightText, RightLeaf, RightElement, ValuesRight}
+use Rattle.paper_acceptance.proofs.Routes.{holds-text, right-conforms, leaf-conforms, EndsAs}
 use Rattle.paper_acceptance.proofs.Proper.{leads, Proper, payment-route}
 use Rattle.paper_acceptance.proofs.Present.{As, follow-one, ends-as, PaymentAs, blocks-as, payments-as}
 use Rattle.paper_acceptance.proofs.Stages.{values-right}
 
 module _ (profile : Profile) (proper : Proper profile) where
+  abbrev pub Right : (holder : Option Element) (parent : ℕ) → Row → Element → Type 0
+  Right = RightElement (profile .withdrawn)
+
   abbrev pub RightAs : (parent k : ℕ) → Element → Type 0
-  RightAs parent k t = As profile proper RightText parent k t
+  RightAs parent k t = As profile proper Right parent k t
+
+  -- a leaf that conforms has a text that is right
+  pub leaf-text : (t : Element) (parent : ℕ) (r : Row) (longest : ℕ) → r .holds ≡ text longest
+      → (holder : Option Element) × Conforms profile Right t holder parent r → RightText parent r (head-of t) (text-of t)
+  unfolding RightLeaf holds-text
+  leaf-text t parent r longest holds c =
+      go (r .holds) holds
+      (subst (λ (u : Element). RightLeaf parent r u)
+      (leaf-conforms profile Right t (c .0) parent r (ap holds-text holds) (c .1))
+      (right-conforms profile Right t (c .0) parent r (c .1) .leaf))
+    where
+      go : (holds : Contents) → holds ≡ text longest
+          → (elim holds as (λ _. Type 0) [ text longest ↦ RightText parent r (head-of t) (text-of t) | elements places ↦ Unit {0} ]) → RightText parent r (head-of t) (text-of t)
+      go (text n) e c = c
+      go (elements places) e c = let z : _≡_ {A = ℕ} 0 1 = cc in absurd (omega (arith, z))
 
   -- a leaf of a block, and the amount of a payment
   pub block-leaf-right : (b : Element) → RightAs 2 10 b → (k longest : ℕ) (t : Element) → leads profile 2 10 (k ∷ []) ≡ true → row-of profile 10 k .holds ≡ text longest
       → child k b ≡ some t → RightText 10 (row-of profile 10 k) (head-of t) (text-of t)
   unfolding EndsAs
   block-leaf-right b c k longest t taken holds e =
-      leaf-conforms profile RightText t 10 (row-of profile 10 k) longest holds (ends-as profile proper RightText 2 10 (k ∷ []) b t taken c (follow-one k b t e))
+      leaf-text t 10 (row-of profile 10 k) longest holds (ends-as profile proper Right 2 10 (k ∷ []) b t taken c (follow-one k b t e))
 
   pub amount-right : (t : Element) → RightAs 10 37 t → (longest : ℕ) (u : Element) → row-of profile 41 42 .holds ≡ text longest → follow (41 ∷ 42 ∷ []) t ≡ some u
       → RightText 41 (row-of profile 41 42) (head-of u) (text-of u)
   unfolding EndsAs among-texts same
   amount-right t c longest u holds e =
-      leaf-conforms profile RightText u 41 (row-of profile 41 42) longest holds (ends-as profile proper RightText 10 37 (41 ∷ 42 ∷ []) t u (payment-route proper _ refl) c e)
+      leaf-text u 41 (row-of profile 41 42) longest holds (ends-as profile proper Right 10 37 (41 ∷ 42 ∷ []) t u (payment-route proper _ refl) c e)
 
   module _ (root : Element) (right : values-refusal profile root ≡ none) where
     root-right : RightAs 0 1 root
     unfolding ValuesRight
-    root-right = values-right profile (proper .apart) root .0 right
+    root-right = (none, values-right profile (proper .apart) root .0 right)
 
     pub header-right : (k longest : ℕ) (t : Element) → leads profile 0 1 (2 ∷ 3 ∷ k ∷ []) ≡ true → row-of profile 3 k .holds ≡ text longest → of-header k root ≡ some t
         → RightText 3 (row-of profile 3 k) (head-of t) (text-of t)
     unfolding of-header EndsAs
     header-right k longest t taken holds e =
-        leaf-conforms profile RightText t 3 (row-of profile 3 k) longest holds (ends-as profile proper RightText 0 1 (2 ∷ 3 ∷ k ∷ []) root t taken root-right e)
+        leaf-text t 3 (row-of profile 3 k) longest holds (ends-as profile proper Right 0 1 (2 ∷ 3 ∷ k ∷ []) root t taken root-right e)
 
     pub blocks-right : All (RightAs 2 10) (blocks root)
-    blocks-right = blocks-as profile proper RightText root root-right
+    blocks-right = blocks-as profile proper Right root root-right
 
-    pub payments-right : All (PaymentAs profile proper RightText) (payments root)
-    payments-right = payments-as profile proper RightText root root-right
+    pub payments-right : All (PaymentAs profile proper Right) (payments root)
+    payments-right = payments-as profile proper Right root root-right

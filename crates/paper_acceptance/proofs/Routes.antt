@@ -9,13 +9,13 @@ use mathlib.Core.Logic.{⊎-elim}
 use borrow.Author.Tests.{eqb-true}
 use lib.Dec.{eqb}
 use Rattle.paper.specs.Bytes.{if_then_else_, white, same, Every}
-use Rattle.paper.specs.Form.{Head, Element, Elements, holding-text, holding-elements, []ᵉ, _∷ᵉ_}
+use Rattle.paper.specs.Form.{Element, Elements, holding-text, holding-elements, []ᵉ, _∷ᵉ_}
 use Rattle.paper.specs.Rows.{Place, Contents, text, elements, Row, Profile, name, row-of, head-of, Arranged, end, exactly-one, there, not-there, the-last, one-before, chosen, Conforms, Conform}
 use Rattle.paper.specs.Values.{among}
 use Rattle.paper.specs.Payments.{listed, children, all-named, all-of, child, follow, text-of}
 use Rattle.paper.specs.Refusals.{rows-at}
 use Rattle.paper.specs.Accepted.{All, all-none, all-more, There}
-use Rattle.paper.proofs.Laws.{some-not-none, both-left, both-right, same-says, same-tests, same-differs, all-member, all-map, among-says}
+use Rattle.paper.proofs.Laws.{false-not-true, some-not-none, both-left, both-right, same-says, same-tests, same-differs, all-member, all-map, among-says}
 use Rattle.paper_acceptance.proofs.Arranged.{rows-of, Apart, apart-none, apart-more, must, one-there}
 use Rattle.paper_acceptance.proofs.Rows.{RowsApart}
 use Rattle.paper_acceptance.proofs.Apart.{unlike, unlike-says}
@@ -76,51 +76,55 @@ some-first : (l : List Element) {u : Element} → List·Memᴰ u l → There (el
 some-first [] m = absurd (List·Memᴰ·not-nil m)
 some-first (v ∷ vs) m = record { it = v; is-it = refl }
 
-module _ (profile : Profile) (Right : (parent : ℕ) → Row → Head → List ℕ → Type 0) where
+module _ (profile : Profile) (Right : (holder : Option Element) (parent : ℕ) → Row → Element → Type 0) where
   -- all children that are named as row k conform to it
-  named-conform : (ts : Elements) (row k : ℕ) (ks js : List ℕ) → Apart js → List·Memᴰ k js → All (λ i. List·Memᴰ i js) ks → Conform profile Right ts row ks
-      → All (λ u. Conforms profile Right u row (row-of profile row k)) (all-named k (listed ts))
+  named-conform : (ts : Elements) (holder : Element) (row k : ℕ) (ks js : List ℕ) → Apart js → List·Memᴰ k js → All (λ i. List·Memᴰ i js) ks → Conform profile Right ts holder row ks
+      → All (λ u. Conforms profile Right u (some holder) row (row-of profile row k)) (all-named k (listed ts))
   unfolding all-named listed Conforms
-  named-conform []ᵉ row k ks js a m h c = all-none
-  named-conform (t ∷ᵉ ts) row k [] js a m h c = absurd c
-  named-conform (t ∷ᵉ ts) row k (i ∷ ks) js a m (all-more n h) c = go (same (head-of t .name) (name k)) refl (named-conform ts row k ks js a m h (c .2))
+  named-conform []ᵉ holder row k ks js a m h c = all-none
+  named-conform (t ∷ᵉ ts) holder row k [] js a m h c = absurd c
+  named-conform (t ∷ᵉ ts) holder row k (i ∷ ks) js a m (all-more n h) c = go (same (head-of t .name) (name k)) refl (named-conform ts holder row k ks js a m h (c .2))
     where
-      go : (b : Bool) → same (head-of t .name) (name k) ≡ b → All (λ u. Conforms profile Right u row (row-of profile row k)) (all-named k (listed ts))
-          → All (λ u. Conforms profile Right u row (row-of profile row k)) (if b then t ∷ all-named k (listed ts) else all-named k (listed ts))
+      go : (b : Bool) → same (head-of t .name) (name k) ≡ b → All (λ u. Conforms profile Right u (some holder) row (row-of profile row k)) (all-named k (listed ts))
+          → All (λ u. Conforms profile Right u (some holder) row (row-of profile row k)) (if b then t ∷ all-named k (listed ts) else all-named k (listed ts))
       go false e below = below
       go true e below =
-          all-more (subst (λ (j : ℕ). Conforms profile Right t row (row-of profile row j)) (apart-same a n m (sym (c .0) ∙ same-says _ _ e)) (c .1)) below
+          all-more (subst (λ (j : ℕ). Conforms profile Right t (some holder) row (row-of profile row j)) (apart-same a n m (sym (c .0) ∙ same-says _ _ e)) (c .1)) below
 
-  pub all-conform : (t : Element) (parent : ℕ) (r : Row) (k : ℕ) → RowsApart r → takes r k ≡ true → Conforms profile Right t parent r
-      → All (λ u. Conforms profile Right u (r .row) (row-of profile (r .row) k)) (all-of k t)
+  pub all-conform : (t : Element) (holder : Option Element) (parent : ℕ) (r : Row) (k : ℕ) → RowsApart r → takes r k ≡ true → Conforms profile Right t holder parent r
+      → All (λ u. Conforms profile Right u (some t) (r .row) (row-of profile (r .row) k)) (all-of k t)
   unfolding all-of children all-named takes RowsApart Conforms
-  all-conform (holding-text h w) parent r k a e c = all-none
-  all-conform (holding-elements h ts) parent r k a e c = go (r .holds) a e c
+  all-conform (holding-text h w) holder parent r k a e c = all-none
+  all-conform (holding-elements h ts) holder parent r k a e c = go (r .holds) a e c
     where
       go : (holds : Contents) → (elim holds as (λ _. Type 0) [ text longest ↦ Unit {0} | elements places ↦ Apart (rows-of places) ])
           → _≡_ {A = Bool} (elim holds [ text longest ↦ false | elements places ↦ among k (rows-of places) ]) true
-          → (elim holds as (λ _. Type 0) [ text longest ↦ ⊥ | elements places ↦ (ks : List ℕ) × Arranged places ks × Conform profile Right ts (r .row) ks ])
-          → All (λ u. Conforms profile Right u (r .row) (row-of profile (r .row) k)) (all-named k (listed ts))
+          → (elim holds as (λ _. Type 0) [
+            | text longest ↦ ⊥
+            | elements places ↦
+                Right holder parent r (holding-elements h ts) × (ks : List ℕ) × Arranged places ks × Conform profile Right ts (holding-elements h ts) (r .row) ks
+          ])
+          → All (λ u. Conforms profile Right u (some (holding-elements h ts)) (r .row) (row-of profile (r .row) k)) (all-named k (listed ts))
       go (text longest) a e c = absurd c
       go (elements places) a e c =
-          named-conform ts (r .row) k (c .0) (rows-of places) a (among-says k (rows-of places) e) (arranged-in (c .1)) (c .2)
+          named-conform ts (holding-elements h ts) (r .row) k (c .1) (rows-of places) a (among-says k (rows-of places) e) (arranged-in (c .2)) (c .3)
 
-  child-conforms : (t : Element) (parent : ℕ) (r : Row) (k : ℕ) (u : Element) → RowsApart r → takes r k ≡ true → Conforms profile Right t parent r
-      → child k t ≡ some u → Conforms profile Right u (r .row) (row-of profile (r .row) k)
+  child-conforms : (t : Element) (holder : Option Element) (parent : ℕ) (r : Row) (k : ℕ) (u : Element) → RowsApart r → takes r k ≡ true → Conforms profile Right t holder parent r
+      → child k t ≡ some u → Conforms profile Right u (some t) (r .row) (row-of profile (r .row) k)
   unfolding child
-  child-conforms t parent r k u a e c f = go (all-of k t) (all-conform t parent r k a e c) f
+  child-conforms t holder parent r k u a e c f = go (all-of k t) (all-conform t holder parent r k a e c) f
     where
-      go : (l : List Element) → All (λ v. Conforms profile Right v (r .row) (row-of profile (r .row) k)) l
-          → _≡_ {A = Option Element} (elim l [ [] ↦ none | v ∷ vs ↦ some v ]) (some u) → Conforms profile Right u (r .row) (row-of profile (r .row) k)
+      go : (l : List Element) → All (λ v. Conforms profile Right v (some t) (r .row) (row-of profile (r .row) k)) l
+          → _≡_ {A = Option Element} (elim l [ [] ↦ none | v ∷ vs ↦ some v ]) (some u) → Conforms profile Right u (some t) (r .row) (row-of profile (r .row) k)
       go [] h f = some-not-none (sym f)
-      go (v ∷ vs) (all-more p h) f = let g : v ≡ u = cc in subst (λ (x : Element). Conforms profile Right x (r .row) (row-of profile (r .row) k)) g p
+      go (v ∷ vs) (all-more p h) f = let g : v ≡ u = cc in subst (λ (x : Element). Conforms profile Right x (some t) (r .row) (row-of profile (r .row) k)) g p
 
   -- In a conforming group, of some rows of which one must be there, one has a child that is found.
-  named-there : (ts : Elements) (row k : ℕ) (ks : List ℕ) → List·Memᴰ k ks → Conform profile Right ts row ks → (u : Element) × List·Memᴰ u (all-named k (listed ts))
+  named-there : (ts : Elements) (holder : Element) (row k : ℕ) (ks : List ℕ) → List·Memᴰ k ks → Conform profile Right ts holder row ks → (u : Element) × List·Memᴰ u (all-named k (listed ts))
   unfolding all-named listed Conforms
-  named-there []ᵉ row k ks m c = absurd (List·Memᴰ·not-nil (subst (λ (l : List ℕ). List·Memᴰ k l) c m))
-  named-there (t ∷ᵉ ts) row k [] m c = absurd c
-  named-there (t ∷ᵉ ts) row k (i ∷ ks) m c = ⊎-elim here (λ n. further-on (same (head-of t .name) (name k)) (named-there ts row k ks n (c .2))) (List·Memᴰ·cases-cons m)
+  named-there []ᵉ holder row k ks m c = absurd (List·Memᴰ·not-nil (subst (λ (l : List ℕ). List·Memᴰ k l) c m))
+  named-there (t ∷ᵉ ts) holder row k [] m c = absurd c
+  named-there (t ∷ᵉ ts) holder row k (i ∷ ks) m c = ⊎-elim here (λ n. further-on (same (head-of t .name) (name k)) (named-there ts holder row k ks n (c .2))) (List·Memᴰ·cases-cons m)
     where
       here : k ≡ i → (u : Element) × List·Memᴰ u (if same (head-of t .name) (name k) then t ∷ all-named k (listed ts) else all-named k (listed ts))
       here e =
@@ -132,105 +136,141 @@ module _ (profile : Profile) (Right : (parent : ℕ) → Row → Head → List �
       further-on true n = (n .0, Memᴰ·append-right (t ∷ []) (n .1))
       further-on false n = n
 
-  pub choice-there : (t : Element) (parent : ℕ) (r : Row) (choice : List ℕ) → must-take r choice ≡ true → Conforms profile Right t parent r
+  pub choice-there : (t : Element) (holder : Option Element) (parent : ℕ) (r : Row) (choice : List ℕ) → must-take r choice ≡ true → Conforms profile Right t holder parent r
       → (k : ℕ) × List·Memᴰ k choice × There (child k t)
   unfolding child all-of children must-take Conforms
-  choice-there (holding-text h w) parent r choice e c = absurd (go (r .holds) e c)
+  choice-there (holding-text h w) holder parent r choice e c = absurd (go (r .holds) e c)
     where
       go : (holds : Contents) → _≡_ {A = Bool} (elim holds [ text longest ↦ false | elements places ↦ must choice places ]) true
-          → (elim holds as (λ _. Type 0) [ text longest ↦ Right parent r h w | elements places ↦ Every white w × Arranged places [] ]) → ⊥
+          → (elim holds as (λ _. Type 0) [
+            | text longest ↦ Right holder parent r (holding-text h w)
+            | elements places ↦ Right holder parent r (holding-text h w) × Every white w × Arranged places []
+          ]) → ⊥
       go (text longest) e c = let z : _≡_ {A = ℕ} 0 1 = cc in omega (arith, z)
-      go (elements places) e c = List·Memᴰ·not-nil (one-there choice e (c .1) .2)
-  choice-there (holding-elements h ts) parent r choice e c = go (r .holds) e c
+      go (elements places) e c = List·Memᴰ·not-nil (one-there choice e (c .2) .2)
+  choice-there (holding-elements h ts) holder parent r choice e c = go (r .holds) e c
     where
       go : (holds : Contents) → _≡_ {A = Bool} (elim holds [ text longest ↦ false | elements places ↦ must choice places ]) true
-          → (elim holds as (λ _. Type 0) [ text longest ↦ ⊥ | elements places ↦ (ks : List ℕ) × Arranged places ks × Conform profile Right ts (r .row) ks ])
+          → (elim holds as (λ _. Type 0) [
+            | text longest ↦ ⊥
+            | elements places ↦
+                Right holder parent r (holding-elements h ts) × (ks : List ℕ) × Arranged places ks × Conform profile Right ts (holding-elements h ts) (r .row) ks
+          ])
           → (k : ℕ) × List·Memᴰ k choice × There (elim (all-named k (listed ts)) as (λ _. Option Element) [ [] ↦ none | v ∷ vs ↦ some v ])
       go (text longest) e c = absurd c
       go (elements places) e c =
-          let n = one-there choice e (c .1) in
-          (n .0, n .1, some-first (all-named (n .0) (listed ts)) (named-there ts (r .row) (n .0) (c .0) (n .2) (c .2) .1))
+          let n = one-there choice e (c .2) in
+          (n .0, n .1, some-first (all-named (n .0) (listed ts)) (named-there ts (holding-elements h ts) (r .row) (n .0) (c .1) (n .2) (c .3) .1))
 
-  pub child-there : (t : Element) (parent : ℕ) (r : Row) (k : ℕ) → must-take r (k ∷ []) ≡ true → Conforms profile Right t parent r → There (child k t)
-  child-there t parent r k e c =
-      let n = choice-there t parent r (k ∷ []) e c in
+  pub child-there : (t : Element) (holder : Option Element) (parent : ℕ) (r : Row) (k : ℕ) → must-take r (k ∷ []) ≡ true → Conforms profile Right t holder parent r → There (child k t)
+  child-there t holder parent r k e c =
+      let n = choice-there t holder parent r (k ∷ []) e c in
       subst (λ (j : ℕ). There (child j t)) (List·Memᴰ·eq-of-singleton (n .1)) (n .2)
 
   -- A row that has the name of none of a group's has no child there.
-  none-named : (ts : Elements) (row k : ℕ) (ks js : List ℕ) → All (λ j. name k ≡ name j → ⊥) js → All (λ i. List·Memᴰ i js) ks → Conform profile Right ts row ks
+  none-named : (ts : Elements) (holder : Element) (row k : ℕ) (ks js : List ℕ) → All (λ j. name k ≡ name j → ⊥) js → All (λ i. List·Memᴰ i js) ks → Conform profile Right ts holder row ks
       → all-named k (listed ts) ≡ []
   unfolding all-named listed Conforms
-  none-named []ᵉ row k ks js a h c = refl
-  none-named (t ∷ᵉ ts) row k [] js a h c = absurd c
-  none-named (t ∷ᵉ ts) row k (i ∷ ks) js a (all-more n h) c =
-      rw (same-differs (head-of t .name) (name k) (λ e. all-member a n (sym e ∙ c .0))) (none-named ts row k ks js a h (c .2))
+  none-named []ᵉ holder row k ks js a h c = refl
+  none-named (t ∷ᵉ ts) holder row k [] js a h c = absurd c
+  none-named (t ∷ᵉ ts) holder row k (i ∷ ks) js a (all-more n h) c =
+      rw (same-differs (head-of t .name) (name k) (λ e. all-member a n (sym e ∙ c .0))) (none-named ts holder row k ks js a h (c .2))
 
-  pub child-absent : (t : Element) (parent : ℕ) (r : Row) (k : ℕ) → lacks r k ≡ true → Conforms profile Right t parent r → child k t ≡ none
+  pub child-absent : (t : Element) (holder : Option Element) (parent : ℕ) (r : Row) (k : ℕ) → lacks r k ≡ true → Conforms profile Right t holder parent r → child k t ≡ none
   unfolding child all-of children all-named lacks Conforms
-  child-absent (holding-text h w) parent r k e c = refl
-  child-absent (holding-elements h ts) parent r k e c = go (r .holds) e c
+  child-absent (holding-text h w) holder parent r k e c = refl
+  child-absent (holding-elements h ts) holder parent r k e c = go (r .holds) e c
     where
       go : (holds : Contents) → _≡_ {A = Bool} (elim holds [ text longest ↦ true | elements places ↦ unlike k (rows-of places) ]) true
-          → (elim holds as (λ _. Type 0) [ text longest ↦ ⊥ | elements places ↦ (ks : List ℕ) × Arranged places ks × Conform profile Right ts (r .row) ks ])
+          → (elim holds as (λ _. Type 0) [
+            | text longest ↦ ⊥
+            | elements places ↦
+                Right holder parent r (holding-elements h ts) × (ks : List ℕ) × Arranged places ks × Conform profile Right ts (holding-elements h ts) (r .row) ks
+          ])
           → _≡_ {A = Option Element} (elim (all-named k (listed ts)) [ [] ↦ none | v ∷ vs ↦ some v ]) none
       go (text longest) e c = absurd c
       go (elements places) e c =
-          rw (none-named ts (r .row) k (c .0) (rows-of places) (unlike-says k (rows-of places) e) (arranged-in (c .1)) (c .2))
+          rw (none-named ts (holding-elements h ts) (r .row) k (c .1) (rows-of places) (unlike-says k (rows-of places) e) (arranged-in (c .2)) (c .3))
 
-  -- a leaf that conforms holds text that is right for it
-  pub leaf-conforms : (t : Element) (parent : ℕ) (r : Row) (longest : ℕ) → r .holds ≡ text longest → Conforms profile Right t parent r
-      → Right parent r (head-of t) (text-of t)
-  unfolding Conforms head-of text-of
-  leaf-conforms (holding-text h w) parent r longest e c = go (r .holds) e c
+  -- what conforms is right where it stands, and a leaf that conforms holds text
+  pub right-conforms : (t : Element) (holder : Option Element) (parent : ℕ) (r : Row) → Conforms profile Right t holder parent r → Right holder parent r t
+  unfolding Conforms
+  right-conforms (holding-text h w) holder parent r c = go (r .holds) c
     where
-      go : (holds : Contents) → holds ≡ text longest
-          → (elim holds as (λ _. Type 0) [ text longest ↦ Right parent r h w | elements places ↦ Every white w × Arranged places [] ]) → Right parent r h w
-      go (text n) e c = c
-      go (elements ps) e c = let z : _≡_ {A = ℕ} 0 1 = cc in absurd (omega (arith, z))
-  leaf-conforms (holding-elements h ts) parent r longest e c = absurd (go (r .holds) e c)
+      go : (holds : Contents)
+          → (elim holds as (λ _. Type 0) [
+            | text longest ↦ Right holder parent r (holding-text h w)
+            | elements places ↦ Right holder parent r (holding-text h w) × Every white w × Arranged places []
+          ]) → Right holder parent r (holding-text h w)
+      go (text longest) c = c
+      go (elements places) c = c .0
+  right-conforms (holding-elements h ts) holder parent r c = go (r .holds) c
     where
-      go : (holds : Contents) → holds ≡ text longest
-          → (elim holds as (λ _. Type 0) [ text longest ↦ ⊥ | elements places ↦ (ks : List ℕ) × Arranged places ks × Conform profile Right ts (r .row) ks ]) → ⊥
-      go (text n) e c = c
-      go (elements ps) e c = let z : _≡_ {A = ℕ} 0 1 = cc in omega (arith, z)
+      go : (holds : Contents)
+          → (elim holds as (λ _. Type 0) [
+            | text longest ↦ ⊥
+            | elements places ↦
+                Right holder parent r (holding-elements h ts) × (ks : List ℕ) × Arranged places ks × Conform profile Right ts (holding-elements h ts) (r .row) ks
+          ]) → Right holder parent r (holding-elements h ts)
+      go (text longest) c = absurd c
+      go (elements places) c = c .0
 
-  -- Along a route: what stands at its end conforms.
-  abbrev As : (parent k : ℕ) → Element → Type 0
-  As parent k t = Conforms profile Right t parent (row-of profile parent k)
+  pub leaf-conforms : (t : Element) (holder : Option Element) (parent : ℕ) (r : Row) → holds-text (r .holds) ≡ true → Conforms profile Right t holder parent r
+      → t ≡ holding-text (head-of t) (text-of t)
+  unfolding Conforms head-of text-of holds-text
+  leaf-conforms (holding-text h w) holder parent r e c = refl
+  leaf-conforms (holding-elements h ts) holder parent r e c = absurd (go (r .holds) e c)
+    where
+      go : (holds : Contents) → holds-text holds ≡ true
+          → (elim holds as (λ _. Type 0) [
+            | text longest ↦ ⊥
+            | elements places ↦
+                Right holder parent r (holding-elements h ts) × (ks : List ℕ) × Arranged places ks × Conform profile Right ts (holding-elements h ts) (r .row) ks
+          ]) → ⊥
+      go (text longest) e c = c
+      go (elements places) e c = false-not-true e
+
+  -- An element that conforms to row k under a parent, whichever element holds it. Along a route: what stands at its end conforms.
+  abbrev pub StandsAs : (parent k : ℕ) → Element → Type 0
+  StandsAs parent k t = (holder : Option Element) × Conforms profile Right t holder parent (row-of profile parent k)
 
   unfoldable pub EndsAs : (parent k : ℕ) → List ℕ → Element → Type 0
-  EndsAs parent k [] u = As parent k u
+  EndsAs parent k [] u = StandsAs parent k u
   EndsAs parent k (j ∷ js) u = EndsAs k j js u
 
   module _ (apart : (parent k : ℕ) → RowsApart (row-of profile parent k)) where
-    pub step-all : (parent k j : ℕ) (t : Element) → (eqb (row-of profile parent k .row) k && takes (row-of profile parent k) j) ≡ true → As parent k t → All (As k j) (all-of j t)
+    pub step-all : (parent k j : ℕ) (t : Element) → (eqb (row-of profile parent k .row) k && takes (row-of profile parent k) j) ≡ true → StandsAs parent k t → All (StandsAs k j) (all-of j t)
     step-all parent k j t e c =
-        subst (λ (i : ℕ). All (λ u. Conforms profile Right u i (row-of profile i j)) (all-of j t)) (eqb-true _ k (both-left (eqb (row-of profile parent k .row) k) _ e))
-        (all-conform t parent (row-of profile parent k) j (apart parent k) (both-right (eqb (row-of profile parent k .row) k) _ e) c)
+        subst (λ (i : ℕ). All (λ u. (holder : Option Element) × Conforms profile Right u holder i (row-of profile i j)) (all-of j t))
+        (eqb-true _ k (both-left (eqb (row-of profile parent k .row) k) _ e))
+        (all-map (λ u d. (some t, d))
+        (all-conform t (c .0) parent (row-of profile parent k) j (apart parent k) (both-right (eqb (row-of profile parent k .row) k) _ e) (c .1)))
 
-    pub step : (parent k j : ℕ) (t u : Element) → (eqb (row-of profile parent k .row) k && takes (row-of profile parent k) j) ≡ true → As parent k t → child j t ≡ some u → As k j u
-    step parent k j t u e c f =
-        subst (λ (i : ℕ). Conforms profile Right u i (row-of profile i j)) (eqb-true _ k (both-left (eqb (row-of profile parent k .row) k) _ e))
-        (child-conforms t parent (row-of profile parent k) j u (apart parent k) (both-right (eqb (row-of profile parent k .row) k) _ e) c f)
+    pub step : (parent k j : ℕ) (t u : Element) → (eqb (row-of profile parent k .row) k && takes (row-of profile parent k) j) ≡ true → StandsAs parent k t → child j t ≡ some u → StandsAs k j u
+    step parent k j t u e c f = (
+      some t,
+      subst (λ (i : ℕ). Conforms profile Right u (some t) i (row-of profile i j)) (eqb-true _ k (both-left (eqb (row-of profile parent k .row) k) _ e))
+          (child-conforms t (c .0) parent (row-of profile parent k) j u (apart parent k) (both-right (eqb (row-of profile parent k .row) k) _ e) (c .1) f),
+    )
 
-    pub follow-conforms : (parent k : ℕ) (route : List ℕ) (t u : Element) → steps profile parent k route ≡ true → As parent k t → follow route t ≡ some u → EndsAs parent k route u
+    pub follow-conforms : (parent k : ℕ) (route : List ℕ) (t u : Element) → steps profile parent k route ≡ true → StandsAs parent k t → follow route t ≡ some u → EndsAs parent k route u
     unfolding steps EndsAs follow
-    follow-conforms parent k [] t u e c f = let g : t ≡ u = cc in subst (As parent k) g c
+    follow-conforms parent k [] t u e c f = let g : t ≡ u = cc in subst (StandsAs parent k) g c
     follow-conforms parent k (j ∷ js) t u e c f = go (child j t) refl f (λ v d g. follow-conforms k j js v u (both-right one-step _ e) d g)
       where
         one-step : Bool
         one-step = eqb (row-of profile parent k .row) k && takes (row-of profile parent k) j
 
         go : (o : Option Element) → child j t ≡ o → _≡_ {A = Option Element} (elim o [ none ↦ none | some v ↦ follow js v ]) (some u)
-            → ((v : Element) → As k j v → follow js v ≡ some u → EndsAs k j js u) → EndsAs k j js u
+            → ((v : Element) → StandsAs k j v → follow js v ≡ some u → EndsAs k j js u) → EndsAs k j js u
         go none p q below = some-not-none (sym q)
         go (some v) p q below = below v (step parent k j t v (both-left one-step _ e) c p) q
 
-    pub follow-there : (parent k : ℕ) (route : List ℕ) (t : Element) → steps profile parent k route ≡ true → must-steps profile parent k route ≡ true → As parent k t → There (follow route t)
+    pub follow-there : (parent k : ℕ) (route : List ℕ) (t : Element) → steps profile parent k route ≡ true → must-steps profile parent k route ≡ true → StandsAs parent k t → There (follow route t)
     unfolding steps must-steps follow
     follow-there parent k [] t e m c = record { it = t; is-it = refl }
     follow-there parent k (j ∷ js) t e m c =
-        let one = child-there t parent (row-of profile parent k) j (both-left (must-take (row-of profile parent k) (j ∷ [])) _ m) c in
+        let one = child-there t (c .0) parent (row-of profile parent k) j (both-left (must-take (row-of profile parent k) (j ∷ [])) _ m) (c .1) in
         go (one .is-it)
         (follow-there k j js (one .it) (both-right (eqb (row-of profile parent k .row) k && takes (row-of profile parent k) j) _ e)
         (both-right (must-take (row-of profile parent k) (j ∷ [])) _ m)

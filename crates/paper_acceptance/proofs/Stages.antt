@@ -10,24 +10,24 @@ use borrow.Author.Tests.{eqb-true, eqb-false, eq-eqb, ne-eqb, ltb-true, lt-ltb, 
 use lib.ListN.{length, length-append, length-map}
 use lib.Dec.{eqb, leb, ltb}
 use Rattle.paper.specs.Bytes.{if_then_else_, value-character, every, same}
-use Rattle.paper.specs.Form.{Head, Element}
-use Rattle.paper.specs.Rows.{Row, Profile, row-of, longest-of, head-of}
-use Rattle.paper.specs.Values.{lies-from, allowed, number, cents}
+use Rattle.paper.specs.Form.{Head, Element, holding-text, holding-elements}
+use Rattle.paper.specs.Rows.{Contents, text, elements, Row, Profile, row-of, longest-of, head-of}
+use Rattle.paper.specs.Values.{among, lies-from, allowed, number, cents}
 use Rattle.paper.specs.Payments.{Payment, text-of, all-of, blocks, header-count, header-sum, block-id, block-count, block-sum, instructed-amount, payments, payments-from, payments-of, in-payment, in-block, amount-of, sum-of, total}
-use Rattle.paper.specs.Refusals.{Refusal, refuse, _or-else_, leaf-refusal, no-judgement, among-texts, unless, at-of, sixty-fifth, too-many, in-both, in-neither, usage-of, usage, repeated, block-counts, rows-refusal, values-refusal, limits-refusal, usage-refusal, ids-refusal, total-refusal, counts-refusal}
-use Rattle.paper.specs.Accepted.{All, all-none, all-more, EachWith, each-none, each-more, Distinct, distinct-none, distinct-more, AnyText, RightText, There, Says, RowsKept, LimitsKept, ValuesRight, NotBoth, Used, UsageKept, IdsApart, Sum, sum-none, sum-more, TotalFits, Truthful, CountsTrue}
-use Rattle.paper.proofs.Laws.{false-not-true, some-not-none, both-left, both-right, every-says, every-tests, same-says, same-tests, all-member, all-map, all-from}
+use Rattle.paper.specs.Refusals.{Refusal, refuse, _or-else_, text-refusal, leaf-refusal, value-refusal, no-judgement, among-texts, unless, at-of, sixty-fifth, too-many, in-both, in-neither, usage-of, usage, repeated, block-counts, rows-refusal, values-refusal, limits-refusal, usage-refusal, ids-refusal, total-refusal, counts-refusal}
+use Rattle.paper.specs.Accepted.{All, all-none, all-more, EachWith, each-none, each-more, Distinct, distinct-none, distinct-more, AnyElement, RightText, RightLeaf, RightElement, There, Says, RowsKept, LimitsKept, ValuesRight, NotBoth, Used, UsageKept, IdsApart, Sum, sum-none, sum-more, TotalFits, Truthful, CountsTrue}
+use Rattle.paper.proofs.Laws.{false-not-true, some-not-none, or-right, both-left, both-right, every-says, every-tests, same-says, same-tests, among-member, among-not, all-member, all-map, all-from}
 use Rattle.paper_acceptance.proofs.Rows.{neither, or-none, refuses, RowsApart, walk-conforms, conforms-walk}
 
--- 6 to 8 at one leaf
+-- 6 to 8 and 28 at one element
 -- a test that is passed, where the refusal behind it is not given; and back
 passed : (t : Bool) {r later : Option Refusal} → (if t then r else later) ≡ none → (r ≡ none → ⊥) → (t ≡ false) × (later ≡ none)
 passed true e n = absurd (n e)
 passed false e n = (refl, e)
 
-leaf-right : (parent : ℕ) (r : Row) (h : Head) (w : List ℕ) → leaf-refusal parent r h w ≡ none → RightText parent r h w
-unfolding leaf-refusal lies-from
-leaf-right parent r h w e =
+text-right : (parent : ℕ) (r : Row) (h : Head) (w : List ℕ) → text-refusal parent r h w ≡ none → RightText parent r h w
+unfolding text-refusal lies-from
+text-right parent r h w e =
     let a = passed (not (leb 1 (length w) && leb (length w) (longest-of (r .holds)))) e (refuses _ _ _) in
     let b = passed (not (every value-character w)) (a .1) (refuses _ _ _) in
     let c = passed (not (allowed parent (r .row) (h .currency) w)) (b .1) (refuses _ _ _) in
@@ -39,10 +39,31 @@ leaf-right parent r h w e =
       value = not-false _ (c .0);
     }
 
-right-leaf : (parent : ℕ) (r : Row) (h : Head) (w : List ℕ) → RightText parent r h w → leaf-refusal parent r h w ≡ none
-unfolding leaf-refusal lies-from
-right-leaf parent r h w c =
+right-text : (parent : ℕ) (r : Row) (h : Head) (w : List ℕ) → RightText parent r h w → text-refusal parent r h w ≡ none
+unfolding text-refusal lies-from
+right-text parent r h w c =
     rw (le-leb 1 (length w) (c .not-empty), le-leb (length w) (longest-of (r .holds)) (c .not-too-long), every-tests (c .characters), c .value)
+
+leaf-right : (parent : ℕ) (r : Row) (t : Element) → leaf-refusal parent r t ≡ none ↔ RightLeaf parent r t
+unfolding leaf-refusal RightLeaf
+leaf-right parent r (holding-elements h ts) = ((λ e. tt), (λ c. refl))
+leaf-right parent r (holding-text h w) = go (r .holds)
+  where
+    go : (holds : Contents) → _≡_ {A = Option Refusal} (elim holds [ text longest ↦ text-refusal parent r h w | elements places ↦ none ]) none
+        ↔ (elim holds as (λ _. Type 0) [ text longest ↦ RightText parent r h w | elements places ↦ Unit {0} ])
+    go (text longest) = (text-right parent r h w, right-text parent r h w)
+    go (elements places) = ((λ e. tt), (λ c. refl))
+
+module _ (withdrawn : List ℕ) (holder : Option Element) (parent : ℕ) (r : Row) (t : Element) where
+  element-right : value-refusal withdrawn holder parent r t ≡ none → RightElement withdrawn holder parent r t
+  unfolding value-refusal
+  element-right e =
+      let a = passed (among (r .row) withdrawn) e (refuses _ _ _) in
+      record { not-withdrawn = (λ m. false-not-true (sym (a .0) ∙ among-member m)); leaf = leaf-right parent r t .0 (a .1) }
+
+  right-element : RightElement withdrawn holder parent r t → value-refusal withdrawn holder parent r t ≡ none
+  unfolding value-refusal
+  right-element c = rw (among-not (r .row) withdrawn (c .not-withdrawn)) (leaf-right parent r t .1 (c .leaf))
 
 -- a leaf that says a number, which is tested by `eqb`
 unless-number : (means : List ℕ → ℕ) (truth number row : ℕ) (o : Option Element) → unless (λ w. eqb (means w) truth) number row o ≡ none ↔ Says means o truth
@@ -61,10 +82,6 @@ unless-number means truth number row (some u) = ((λ e. go (eqb (means (text-of 
         rw (eq-eqb (means (text-of u)) truth (ap (λ (x : Element). means (text-of x)) g ∙ s .says))
 
 -- 11: a text is among texts
-or-right : (a : Bool) {b : Bool} → b ≡ true → (a || b) ≡ true
-or-right true e = refl
-or-right false e = e
-
 among-texts-says : (w : List ℕ) (vs : List (List ℕ)) → among-texts w vs ≡ true → List·Memᴰ w vs
 unfolding among-texts
 among-texts-says w [] e = false-not-true e
@@ -356,14 +373,14 @@ counts-true root amounts of-each =
 pub rows-kept : (profile : Profile) → ((parent k : ℕ) → RowsApart (row-of profile parent k)) → (root : Element) → rows-refusal profile root ≡ none ↔ RowsKept profile root
 unfolding rows-refusal RowsKept no-judgement
 rows-kept profile apart root = (
-  (λ e. walk-conforms profile no-judgement AnyText (λ parent r h w n. record {}) root 0 (row-of profile 0 1) e),
-  (λ c. conforms-walk profile no-judgement AnyText (λ parent r h w d. refl) apart root 0 (row-of profile 0 1) (apart 0 1) c),
+  (λ e. walk-conforms profile no-judgement AnyElement (λ holder parent r t n. record {}) root none 0 (row-of profile 0 1) e),
+  (λ c. conforms-walk profile no-judgement AnyElement (λ holder parent r t d. refl) apart root none 0 (row-of profile 0 1) (apart 0 1) c),
 )
 
 pub values-right : (profile : Profile) → ((parent k : ℕ) → RowsApart (row-of profile parent k)) → (root : Element)
     → values-refusal profile root ≡ none ↔ ValuesRight profile root
 unfolding values-refusal ValuesRight
 values-right profile apart root = (
-  (λ e. walk-conforms profile leaf-refusal RightText leaf-right root 0 (row-of profile 0 1) e),
-  (λ c. conforms-walk profile leaf-refusal RightText right-leaf apart root 0 (row-of profile 0 1) (apart 0 1) c),
+  (λ e. walk-conforms profile (value-refusal (profile .withdrawn)) (RightElement (profile .withdrawn)) (element-right (profile .withdrawn)) root none 0 (row-of profile 0 1) e),
+  (λ c. conforms-walk profile (value-refusal (profile .withdrawn)) (RightElement (profile .withdrawn)) (right-element (profile .withdrawn)) apart root none 0 (row-of profile 0 1) (apart 0 1) c),
 )

@@ -10,7 +10,7 @@ use lib.ListN.{length, getD, length-append, length-map}
 use lib.Dec.{eqb, ltb}
 use borrow.Author.Tests.{eqb-true, eqb-false, eq-eqb, ne-eqb, ltb-true, ltb-false, lt-ltb, le-ltb}
 use Rattle.paper.specs.Bytes.{if_then_else_}
-use Rattle.paper.specs.Rows.{Profile}
+use Rattle.paper.specs.Rows.{Profile, as-new}
 use Rattle.paper.specs.Values.{among}
 use Rattle.paper.specs.Payments.{Payment, payments}
 use Rattle.paper.specs.Refusals.{Refusal, Outcome, refused-as, accepted-with, outcome-alone}
@@ -18,10 +18,10 @@ use Rattle.paper.specs.Accepted.{All, EachWith, each-none, each-more, Distinct,
 use Rattle.paper.specs.Fields.{Value, same-value, fields, values-of, differ-from}
 use Rattle.paper.specs.Regrouping.{RegroupingAnswer, message-refused, answered, ordinals-of, file-of, pairing, of-payments, all-values, of-outcomes, regrouping, At, Names}
 use Rattle.paper.specs.Order.{LowestDifference, Comparable, FineUpTo, AnswerIs, first-refused, second-refused, numbers-differ, not-of-that-form, another-count, too-large, named-before, fields-differ, all-paired}
-use Rattle.paper.proofs.Laws.{false-not-true, some-not-none, among-says, all-from}
-use Rattle.paper_acceptance.proofs.Proper.{Proper}
+use Rattle.paper.proofs.Laws.{false-not-true, some-not-none, among-says, all-from, among-member, among-not}
+use Rattle.paper_acceptance.proofs.Proper.{Proper, new-proper}
 use Rattle.paper_acceptance.proofs.Accepts.{accepted-from, outcome-of}
-use Rattle.paper_pairing.proofs.Pairing.{same-value-says, same-value-tests, no-difference, equal-no-difference, among-member, among-not, Rest, rest-of}
+use Rattle.paper_pairing.proofs.Pairing.{same-value-says, same-value-tests, no-difference, equal-no-difference, Rest, rest-of}
 use Rattle.paper_pairing.proofs.Regroups.{at-within, at-values, values-at, each-named, each-within, ordinals-back, back-ordinals, regroups-exactly}
 
 -- the lowest field that differs, from n on
@@ -231,7 +231,7 @@ module _ (profile : Profile) (proper : Proper profile) (first second file : List
   -- an answer, whatever the messages and the list
   in-order : All (λ b. b < 256) file → Answers (regrouping profile first second file)
   unfolding regrouping of-outcomes of-payments all-values back accepted-from
-  in-order bytes = go (outcome-alone profile first) refl (outcome-alone profile second) refl
+  in-order bytes = go (outcome-alone profile first) refl (outcome-alone (as-new profile) second) refl
     where
       counted : (c : Comparable profile first second file) (os : List ℕ) → file ≡ file-of os → (t : Bool) → eqb (length os) (length (map values-of (ones c))) ≡ t
           → Answers (if t then pairing (map values-of (ones c)) 0 [] os (map values-of (others c)) else answered 17 0 0)
@@ -251,7 +251,7 @@ module _ (profile : Profile) (proper : Proper profile) (first second file : List
       of-list c none e = inl (not-of-that-form c (λ os f. some-not-none (sym (ordinals-back os) ∙ ap ordinals-of (sym f) ∙ e)))
       of-list c (some os) e = counted c os (back-ordinals file os bytes e) (eqb (length os) (length (map values-of (ones c)))) refl
 
-      of-both : (a : Accepted profile first) (b : Accepted profile second) (t : Bool)
+      of-both : (a : Accepted profile first) (b : Accepted (as-new profile) second) (t : Bool)
           → eqb (length (map values-of (payments (a .root)))) (length (map values-of (payments (b .root)))) ≡ t
           → Answers
           (if not t then answered 15 0 0 else
@@ -274,18 +274,18 @@ module _ (profile : Profile) (proper : Proper profile) (first second file : List
           })
           (ordinals-of file) refl
 
-      go : (o : Outcome) → outcome-alone profile first ≡ o → (q : Outcome) → outcome-alone profile second ≡ q → Answers (of-outcomes o q file)
+      go : (o : Outcome) → outcome-alone profile first ≡ o → (q : Outcome) → outcome-alone (as-new profile) second ≡ q → Answers (of-outcomes o q file)
       go (refused-as r) a q b = inl (first-refused a)
       go (accepted-with t) a (refused-as r) b = inl (second-refused (accepted-from profile proper first t a) b)
       go (accepted-with t) a (accepted-with u) b =
-          of-both (accepted-from profile proper first t a) (accepted-from profile proper second u b)
+          of-both (accepted-from profile proper first t a) (accepted-from (as-new profile) (new-proper proper) second u b)
           (eqb (length (map values-of (payments t))) (length (map values-of (payments u)))) refl
 
   -- what is computed of two messages that are accepted
-  both-accepted : (a : Accepted profile first) (b : Accepted profile second)
+  both-accepted : (a : Accepted profile first) (b : Accepted (as-new profile) second)
       → regrouping profile first second file ≡ of-payments (map values-of (payments (a .root))) (map values-of (payments (b .root))) file
   unfolding regrouping of-outcomes all-values
-  both-accepted a b = go (outcome-of profile proper first a) (outcome-of profile proper second b)
+  both-accepted a b = go (outcome-of profile proper first a) (outcome-of (as-new profile) (new-proper proper) second b)
     where
       go : {o q : Outcome} → o ≡ accepted-with (a .root) → q ≡ accepted-with (b .root)
           → of-outcomes o q file ≡ of-payments (map values-of (payments (a .root))) (map values-of (payments (b .root))) file
@@ -317,11 +317,11 @@ module _ (profile : Profile) (proper : Proper profile) (first second file : List
   unfolding regrouping of-outcomes
   refused-first e = rw e
 
-  refused-second : {r : Refusal} → Accepted profile first → outcome-alone profile second ≡ refused-as r → regrouping profile first second file ≡ message-refused 2 r
+  refused-second : {r : Refusal} → Accepted profile first → outcome-alone (as-new profile) second ≡ refused-as r → regrouping profile first second file ≡ message-refused 2 r
   unfolding regrouping of-outcomes
   refused-second a e = rw (outcome-of profile proper first a, e)
 
-  numbers-do-differ : (a : Accepted profile first) (b : Accepted profile second) → (length (payments (a .root)) ≡ length (payments (b .root)) → ⊥)
+  numbers-do-differ : (a : Accepted profile first) (b : Accepted (as-new profile) second) → (length (payments (a .root)) ≡ length (payments (b .root)) → ⊥)
       → regrouping profile first second file ≡ answered 15 0 0
   unfolding of-payments
   numbers-do-differ a b n =

@@ -2,19 +2,19 @@
 use Prim.Native.Nat.{ℕ, suc, _<_}
 use native.Mathlib.Omega.{arith}
 use mathlib.Core.List.{List, [], _∷_, List·Memᴰ, List·Memᴰ·head, List·Memᴰ·tail, List·Memᴰ·cases-cons, Memᴰ·cast}
-use mathlib.Core.Bool.{Bool, true, false, _&&_, _||_, not}
+use mathlib.Core.Bool.{Bool, true, false, _&&_, not}
 use mathlib.Core.Option.{Option, none, some}
 use mathlib.Core.Path.{_≡_, refl, sym, _∙_, ap}
 use mathlib.Core.Logic.{⊎-elim}
 use lib.ListN.{length, getD}
-use lib.Dec.{ltb, eqb}
+use lib.Dec.{ltb}
 use borrow.Author.Tests.{ltb-true, lt-ltb, eqb-true, eq-eqb}
 use Rattle.paper.specs.Bytes.{if_then_else_, same}
 use Rattle.paper.specs.Values.{among}
 use Rattle.paper.specs.Accepted.{All, all-none, all-more, Distinct, distinct-none, distinct-more}
 use Rattle.paper.specs.Fields.{Value, absent, a-text, in-cents, free-text, reference, same-issuer, same-value, differ-from}
 use Rattle.paper.specs.Regrouping.{RegroupingAnswer, answered, same-payment, pairing}
-use Rattle.paper.proofs.Laws.{false-not-true, some-not-none, both, both-left, both-right, same-says, same-tests, all-member, all-map, all-from, among-says}
+use Rattle.paper.proofs.Laws.{false-not-true, some-not-none, both, both-left, both-right, same-says, same-tests, all-member, all-map, all-from, among-member, among-not}
 use Rattle.paper_pairing.proofs.Counting.{Names, names-none, names-more}
 
 -- equality of values and of payments, by their tests
@@ -103,22 +103,6 @@ same-payment-says v w e = go (differ-from 1 v w) refl e
 pub same-payment-tests : (v : List Value) → same-payment v v ≡ true
 unfolding same-payment
 same-payment-tests v = rw (equal-no-difference 1 v, same-payment)
-
-pub among-member : {n : ℕ} {ks : List ℕ} → List·Memᴰ n ks → among n ks ≡ true
-unfolding among
-among-member {n} (List·Memᴰ·head {x = k} e) = rw (eq-eqb n k e)
-among-member {n} (List·Memᴰ·tail {x = k} m) = go (eqb n k) (among-member m)
-  where
-    go : (t : Bool) {b : Bool} → b ≡ true → (t || b) ≡ true
-    go true e = refl
-    go false e = e
-
-pub among-not : (n : ℕ) (ks : List ℕ) → (List·Memᴰ n ks → ⊥) → among n ks ≡ false
-among-not n ks m = go (among n ks) refl
-  where
-    go : (t : Bool) → among n ks ≡ t → t ≡ false
-    go true e = absurd (m (among-says n ks e))
-    go false e = refl
 
 -- an answer that is not acceptance
 refused-answer : {A : Type 0} (n k f : ℕ) → 0 < n → answered n k f ≡ answered 0 0 0 → A

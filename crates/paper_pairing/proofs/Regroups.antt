@@ -12,14 +12,14 @@ use lib.Dec.{eqb}
 use borrow.Author.Tests.{eqb-true, eq-eqb}
 use Rattle.paper.specs.Bytes.{if_then_else_, bytes, same, each}
 use Rattle.paper.specs.Form.{Element}
-use Rattle.paper.specs.Rows.{Profile}
+use Rattle.paper.specs.Rows.{Profile, as-new}
 use Rattle.paper.specs.Payments.{Payment, payments}
 use Rattle.paper.specs.Refusals.{Refusal, Outcome, refused-as, accepted-with, outcome-alone}
 use Rattle.paper.specs.Accepted.{All, all-none, all-more, EachWith, each-none, each-more, Accepted}
 use Rattle.paper.specs.Fields.{Value, values-of}
 use Rattle.paper.specs.Regrouping.{RegroupingAnswer, message-refused, answered, add-first, numbers-16, counted, ordinals-of, two-bytes, file-of, same-payment, often, pairing, of-payments, all-values, of-outcomes, regrouping, At, at-first, at-later, Names, Regroups, AcceptableList, EquallyOften}
 use Rattle.paper.proofs.Laws.{some-not-none, both-left, both-right, same-says, all-map, all-from, all-joined}
-use Rattle.paper_acceptance.proofs.Proper.{Proper}
+use Rattle.paper_acceptance.proofs.Proper.{Proper, new-proper}
 use Rattle.paper_acceptance.proofs.Accepts.{accepted-from, outcome-of}
 use Rattle.paper_pairing.proofs.Counting as counting
 use Rattle.paper_pairing.proofs.Counting.{count, names-none, names-more, Pairs, paired-counts, counts-paired, every-ordinal}
@@ -222,7 +222,7 @@ whose-one w r h e = let z : w ≡ 0 = ap (λ (a : RegroupingAnswer). a .whose) e
 module _ (profile : Profile) (proper : Proper profile) where
   -- a list as `Regroups` says it
   module _ (first second file : List ℕ) where
-    regroups : (a : Accepted profile first) (b : Accepted profile second) (l : Listed (all-values (a .root)) (all-values (b .root)) file) → file ≡ file-of (l .ordinals)
+    regroups : (a : Accepted profile first) (b : Accepted (as-new profile) second) (l : Listed (all-values (a .root)) (all-values (b .root)) file) → file ≡ file-of (l .ordinals)
         → Regroups profile first second file
     unfolding all-values
     regroups a b l f =
@@ -259,20 +259,20 @@ module _ (profile : Profile) (proper : Proper profile) where
 
     accepted-regroups : All (λ b. b < 256) file → regrouping profile first second file ≡ answered 0 0 0 → Regroups profile first second file
     unfolding regrouping of-outcomes accepted-from
-    accepted-regroups h e = go (outcome-alone profile first) refl (outcome-alone profile second) refl e
+    accepted-regroups h e = go (outcome-alone profile first) refl (outcome-alone (as-new profile) second) refl e
       where
-        go : (o : Outcome) → outcome-alone profile first ≡ o → (q : Outcome) → outcome-alone profile second ≡ q → of-outcomes o q file ≡ answered 0 0 0
+        go : (o : Outcome) → outcome-alone profile first ≡ o → (q : Outcome) → outcome-alone (as-new profile) second ≡ q → of-outcomes o q file ≡ answered 0 0 0
             → Regroups profile first second file
         go (refused-as r) a q b c = whose-one 1 r (omega arith) c
         go (accepted-with t) a (refused-as r) b c = whose-one 2 r (omega arith) c
         go (accepted-with t) a (accepted-with u) b c =
             let l = accepted-listed (all-values t) (all-values u) file c in
-            regroups (accepted-from profile proper first t a) (accepted-from profile proper second u b) l (back-ordinals file (l .ordinals) h (l .read-as))
+            regroups (accepted-from profile proper first t a) (accepted-from (as-new profile) (new-proper proper) second u b) l (back-ordinals file (l .ordinals) h (l .read-as))
 
     regroups-accepted : Regroups profile first second file → regrouping profile first second file ≡ answered 0 0 0
     unfolding regrouping of-outcomes
     regroups-accepted r =
-        go (outcome-of profile proper first (r .first-accepted)) (outcome-of profile proper second (r .second-accepted))
+        go (outcome-of profile proper first (r .first-accepted)) (outcome-of (as-new profile) (new-proper proper) second (r .second-accepted))
         (listed-accepted (all-values (r .first-accepted .root)) (all-values (r .second-accepted .root)) file (listed r))
       where
         go : {o q : Outcome} → o ≡ accepted-with (r .first-accepted .root) → q ≡ accepted-with (r .second-accepted .root)
@@ -298,7 +298,7 @@ often-counts p [] = refl
 often-counts p (q ∷ l) = rw (often-counts p l)
 
 -- For two accepted messages an acceptable list exists exactly where every payment stands equally often in both.
-module _ (profile : Profile) (proper : Proper profile) (first second : List ℕ) (a : Accepted profile first) (b : Accepted profile second) where
+module _ (profile : Profile) (proper : Proper profile) (first second : List ℕ) (a : Accepted profile first) (b : Accepted (as-new profile) second) where
   often-list : EquallyOften (a .root) (b .root) → AcceptableList profile first second
   unfolding EquallyOften
   often-list h = go (counts-paired same-payment same-payment-says same-payment-tests [] (all-values (a .root)) (all-values (b .root)) counts)
@@ -329,7 +329,7 @@ module _ (profile : Profile) (proper : Proper profile) (first second : List ℕ)
       subst (λ (t : Element). counted-as v (all-values t) ≡ _) (same-root profile proper first (r .first-accepted) a)
       (paired-counts same-payment same-payment-says same-payment-tests [] (all-values (r .first-accepted .root)) (r .ordinals)
       (all-values (r .second-accepted .root)) p v) ∙
-      ap (λ (t : Element). counted-as v (all-values t)) (same-root profile proper second (r .second-accepted) b) ∙ sym (often-counts v _)
+      ap (λ (t : Element). counted-as v (all-values t)) (same-root (as-new profile) (new-proper proper) second (r .second-accepted) b) ∙ sym (often-counts v _)
 
   pub list-exists-exactly : AcceptableList profile first second ↔ EquallyOften (a .root) (b .root)
   list-exists-exactly = (list-often, often-list)

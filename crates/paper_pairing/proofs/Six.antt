@@ -9,13 +9,13 @@ use mathlib.Core.Logic.{_↔_}
 use lib.ListN.{length, getD}
 use lib.Dec.{eqb, ltb}
 use Rattle.paper.specs.Bytes.{if_then_else_}
-use Rattle.paper.specs.Rows.{Profile}
+use Rattle.paper.specs.Rows.{Profile, as-new}
 use Rattle.paper.specs.Values.{among}
 use Rattle.paper.specs.Refusals.{Refusal, Outcome, refused-as, accepted-with, outcome-alone}
 use Rattle.paper.specs.Accepted.{All}
 use Rattle.paper.specs.Fields.{Value, differ-from}
 use Rattle.paper.specs.Regrouping.{RegroupingAnswer, message-refused, answered, ordinals-of, pairing, of-payments, all-values, of-outcomes, regrouping, Regroups}
-use Rattle.paper_acceptance.proofs.Proper.{Proper}
+use Rattle.paper_acceptance.proofs.Proper.{Proper, new-proper}
 use Rattle.paper_acceptance.proofs.Order.{not-zero}
 use Rattle.paper_pairing.proofs.Regroups.{regroups-exactly}
 
@@ -70,11 +70,11 @@ not-a-pair (List·Memᴰ·tail (List·Memᴰ·head f)) e = omega (arith, f, e)
 module _ (profile : Profile) (proper : Proper profile) (first second file : List ℕ) where
   pub six-numbers : SixNumbers (regrouping profile first second file)
   unfolding regrouping of-outcomes
-  six-numbers = go (outcome-alone profile first) refl (outcome-alone profile second) refl
+  six-numbers = go (outcome-alone profile first) refl (outcome-alone (as-new profile) second) refl
     where
-      go : (o : Outcome) → outcome-alone profile first ≡ o → (q : Outcome) → outcome-alone profile second ≡ q → SixNumbers (of-outcomes o q file)
+      go : (o : Outcome) → outcome-alone profile first ≡ o → (q : Outcome) → outcome-alone (as-new profile) second ≡ q → SixNumbers (of-outcomes o q file)
       go (refused-as r) e q f = of-a-message 1 r (List·Memᴰ·head refl) (not-zero profile proper first e)
-      go (accepted-with t) e (refused-as r) f = of-a-message 2 r (List·Memᴰ·tail (List·Memᴰ·head refl)) (not-zero profile proper second f)
+      go (accepted-with t) e (refused-as r) f = of-a-message 2 r (List·Memᴰ·tail (List·Memᴰ·head refl)) (not-zero (as-new profile) (new-proper proper) second f)
       go (accepted-with t) e (accepted-with u) f = payments-six (all-values t) (all-values u) file
 
   -- number 0 is acceptance

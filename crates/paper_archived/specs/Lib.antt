@@ -1,0 +1,2 @@
+-- The answers as they were before.
+pub mod Before
