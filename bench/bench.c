@@ -33,9 +33,13 @@
 #define FIRST 0
 #define INSTANT 1
 
-glowenzo_verdict_t independent_verdict(uint64_t profile, const uint8_t *message, uint64_t message_len, uint8_t *table, uint64_t table_len);
-glowenzo_regroup_t independent_regroup(uint64_t profile, const uint8_t *first, uint64_t first_len, const uint8_t *second, uint64_t second_len,
-                                       const uint8_t *list, uint64_t list_len);
+/* No message is archived. */
+#define NEW 0
+
+glowenzo_verdict_t independent_verdict(uint64_t profile, uint64_t archived, const uint8_t *message, uint64_t message_len, uint8_t *table,
+                                       uint64_t table_len);
+glowenzo_regroup_t independent_regroup(uint64_t profile, uint64_t archived, const uint8_t *first, uint64_t first_len, const uint8_t *second,
+                                       uint64_t second_len, const uint8_t *list, uint64_t list_len);
 
 struct input {
     const char *name;
@@ -57,26 +61,26 @@ static unsigned long events;
 
 static void our_verdict(const struct call *call)
 {
-    glowenzo_verdict_t v = glowenzo_verdict(call->profile, call->first->bytes, call->first->length, table, sizeof table);
+    glowenzo_verdict_t v = glowenzo_verdict(call->profile, NEW, call->first->bytes, call->first->length, table, sizeof table);
     sink += v.number + v.cents;
 }
 
 static void rust_verdict(const struct call *call)
 {
-    glowenzo_verdict_t v = independent_verdict(call->profile, call->first->bytes, call->first->length, table, sizeof table);
+    glowenzo_verdict_t v = independent_verdict(call->profile, NEW, call->first->bytes, call->first->length, table, sizeof table);
     sink += v.number + v.cents;
 }
 
 static void our_regroup(const struct call *call)
 {
-    glowenzo_regroup_t r = glowenzo_regroup(call->profile, call->first->bytes, call->first->length, call->second->bytes, call->second->length,
+    glowenzo_regroup_t r = glowenzo_regroup(call->profile, NEW, call->first->bytes, call->first->length, call->second->bytes, call->second->length,
                                             call->list->bytes, call->list->length);
     sink += r.number + r.k;
 }
 
 static void rust_regroup(const struct call *call)
 {
-    glowenzo_regroup_t r = independent_regroup(call->profile, call->first->bytes, call->first->length, call->second->bytes, call->second->length,
+    glowenzo_regroup_t r = independent_regroup(call->profile, NEW, call->first->bytes, call->first->length, call->second->bytes, call->second->length,
                                                call->list->bytes, call->list->length);
     sink += r.number + r.k;
 }
@@ -258,8 +262,8 @@ static void verdict_line(uint64_t profile, const struct input *message, double m
     struct call call = {profile, message, NULL, NULL};
     double ns[4];
     measure(runs, ns, 4, &call);
-    glowenzo_verdict_t v = glowenzo_verdict(profile, message->bytes, message->length, table, sizeof table);
-    glowenzo_verdict_t w = independent_verdict(profile, message->bytes, message->length, table, sizeof table);
+    glowenzo_verdict_t v = glowenzo_verdict(profile, NEW, message->bytes, message->length, table, sizeof table);
+    glowenzo_verdict_t w = independent_verdict(profile, NEW, message->bytes, message->length, table, sizeof table);
     printf("%-20s %6lu %4lu %9.1f %9.1f %9.1f %9.1f %9.2f %9.2f %9.2f %9.2f %4.2f %s\n", message->name, (unsigned long)message->length,
            (unsigned long)v.number, ns[0] / 1e3, ns[1] / 1e3, ns[2] / 1e3, ns[3] / 1e3, ns[0] / (double)message->length, ns[0] / ns[1], ns[0] / ns[3],
            ns[0] / ns[2], most, bar(ns[0] / ns[2], most));
@@ -276,8 +280,8 @@ static void regroup_line(const char *name, const struct input *first, const stru
     measure(one, &verdict_first, 1, &call);
     measure(one, &verdict_second, 1, &other);
     double verdict = (verdict_first + verdict_second) / 2;
-    glowenzo_regroup_t r = glowenzo_regroup(FIRST, first->bytes, first->length, second->bytes, second->length, list->bytes, list->length);
-    glowenzo_regroup_t s = independent_regroup(FIRST, first->bytes, first->length, second->bytes, second->length, list->bytes, list->length);
+    glowenzo_regroup_t r = glowenzo_regroup(FIRST, NEW, first->bytes, first->length, second->bytes, second->length, list->bytes, list->length);
+    glowenzo_regroup_t s = independent_regroup(FIRST, NEW, first->bytes, first->length, second->bytes, second->length, list->bytes, list->length);
     printf("%-34s %4lu %9.1f %9.1f %9.1f %9.2f %9.2f %4.2f %s\n", name, (unsigned long)r.number, ns[0] / 1e3, ns[1] / 1e3, verdict / 1e3, ns[0] / ns[1],
            ns[0] / verdict, MOST_VERDICTS, bar(ns[0] / verdict, MOST_VERDICTS));
     same(name, memcmp(&r, &s, sizeof r) == 0);

@@ -5,13 +5,14 @@
 //! N.xml: accepted, with N payments in up to 16 blocks; 64.xml is the largest that can be: 32,768 bytes, 16 blocks, 64 payments.
 //! 64-instant.xml: the same under the instant profile, with rows 56 and 58 in each block and as many bytes.
 //! moved.xml: the payments of 64.xml in opposite order, and reversed.rgl, the list for it; changed.xml: the same with the last remittance changed.
-//! The others are refused, each after as much work as its refusal allows.
+//! The others are refused, each after as much work as its refusal allows. All are read as new: every debtor's agent has a BIC.
 
-use independent::{regroup, verdict, Profile, Regroup, Verdict};
+use independent::{regroup, verdict, Age, Profile, Regroup, Verdict};
 use std::io;
 use std::path::Path;
 
 const FIRST: Profile = Profile::FIRST;
+const NEW: Age = Age::New;
 const LARGEST: usize = 32_768;
 const ACCOUNTS: [&str; 3] = ["LU566541234567890123", "LU699871234567898765", "LU415551234567898765"];
 const ROOT: &str = "<Document xmlns=\"urn:iso:std:iso:20022:tech:xsd:pain.001.001.09\">";
@@ -98,7 +99,7 @@ fn write(folder: &Path, name: &str, message: &str, wanted: Verdict) -> io::Resul
 }
 
 fn write_under(profile: Profile, folder: &Path, name: &str, message: &str, wanted: Verdict) -> io::Result<()> {
-    assert_eq!(verdict(profile, message.as_bytes(), &mut [0; 1024]), wanted, "{name}");
+    assert_eq!(verdict(profile, NEW, message.as_bytes(), &mut [0; 1024]), wanted, "{name}");
     std::fs::write(folder.join(name).with_extension("xml"), message)
 }
 
@@ -127,9 +128,9 @@ fn main() -> io::Result<()> {
     let list: Vec<u8> = [1, 64].into_iter().chain(backwards.iter().map(|ordinal| *ordinal as u16)).flat_map(u16::to_be_bytes).collect();
     let list = [b"RGL", &list[..]].concat();
     std::fs::write(folder.join("reversed.rgl"), &list)?;
-    assert_eq!(regroup(FIRST, full.as_bytes(), moved.as_bytes(), &list), Regroup::Accepted);
+    assert_eq!(regroup(FIRST, NEW, full.as_bytes(), moved.as_bytes(), &list), Regroup::Accepted);
     let last = Regroup::Refused { number: 20, k: 63, field: 17 };
-    assert_eq!(regroup(FIRST, full.as_bytes(), changed.as_bytes(), &list), last);
+    assert_eq!(regroup(FIRST, NEW, full.as_bytes(), changed.as_bytes(), &list), last);
 
     let last_byte = format!("{}<", &full[..LARGEST - 1]);
     write(folder, "last-byte", &last_byte, refused(2, 0, LARGEST - 1))?;

@@ -4,11 +4,12 @@
 //!
 //! COMMAND runs the driver (driver.c), which calls the library. What is lent to it lies among guard bytes in one run of bytes; the driver hands back the
 //! answer and the whole run. Both must be what the independent implementation says: the answer, every byte of the table, and every other byte as it was.
-//! Each call names a profile by a number; a part of the messages and pairs is read under both. The inputs of the first differences are written to FOLDER.
-//! It fails on any difference, and if under one of the profiles a refusal that can be reached never was.
+//! Each call names a profile by a number, and says by a number whether the message, or the first one, is archived; a part of the messages and pairs is read
+//! under both profiles, a part as new and as archived. The inputs of the first differences are written to FOLDER. It fails on any difference, and if under
+//! one of the profiles, as new or as archived, a refusal that can be reached never was, or one that can't was.
 
 use independent::generate::{self, random::Random, Pair};
-use independent::{regroup, verdict, Profile, Regroup, Verdict};
+use independent::{field, regroup, verdict, Age, Profile, Regroup, Verdict};
 use std::collections::{BTreeMap, BTreeSet};
 use std::io::{self, Read, Write};
 use std::path::Path;
@@ -30,8 +31,23 @@ const OF_FIRST: [(u64, u64); 2] = [(3, 16), (3, 22)];
 const OF_INSTANT: [(u64, u64); 15] =
     [(3, 16), (3, 22), (3, 56), (3, 57), (3, 58), (4, 18), (4, 23), (4, 56), (4, 57), (6, 57), (6, 58), (7, 57), (7, 58), (8, 57), (8, 58)];
 
+/// Refusals and rows that come of the debtor's agent: of every message, of a new one and of an archived one.
+const OF_AGENTS: [(u64, u64); 5] = [(3, 30), (3, 32), (3, 33), (4, 31), (4, 33)];
+const OF_NEW: [(u64, u64); 1] = [(WITHDRAWN, 32)];
+const OF_ARCHIVED: [(u64, u64); 3] = [(6, 33), (7, 33), (8, 33)];
+
+/// The refusal of a new message that holds row 32.
+const WITHDRAWN: u64 = 28;
+
+/// The field that is the debtor's agent, and its text where that was not provided.
+const AGENT: u64 = 7;
+const NOT_PROVIDED: &[u8] = b"NOTPROVIDED";
+
 /// Numbers that name no profile, and so the first: some of their bytes or halves are those of 1.
 const UNKNOWN: [u64; 4] = [2, 257, (1 << 32) + 1, u64::MAX];
+
+/// Numbers besides 1 that say that a message is archived: some of their bytes or halves are 0.
+const ARCHIVED: [u64; 5] = [2, 256, 1 << 32, 1 << 63, u64::MAX];
 
 #[derive(Clone, Copy, PartialEq)]
 enum Kind {
@@ -39,12 +55,30 @@ enum Kind {
     Regroup = 2,
 }
 
+/// What the caller says with a message or a pair: the profile, and whether the message, or the first one, is archived.
+#[derive(Clone, Copy)]
+struct Said {
+    profile: u64,
+    archived: u64,
+}
+
+impl Said {
+    fn profile(self) -> Profile {
+        Profile::numbered(self.profile)
+    }
+
+    fn age(self) -> Age {
+        Age::numbered(self.archived)
+    }
+}
+
 /// One call: what is lent, and what must come back.
 struct Call {
     kind: Kind,
     index: u64,
-    /// The number that names the profile.
-    profile: u64,
+    said: Said,
+    /// The agents differ, and the first message's was not provided.
+    not_provided: bool,
     lent: Vec<u8>,
     /// Place and length of each part in what is lent.
     parts: [(u32, u32); 3],
@@ -81,7 +115,7 @@ fn compare(seed: u64, messages: u64, pairs: u64, folder: &Path, command: &[Strin
     let (sender, calls) = sync_channel(16);
     // It ends when all is sent, or when the driver or this side has broken off.
     let asking = std::thread::spawn(move || ask(seed, messages, pairs, to, sender));
-    let mut seen = SeenUnderEach::default();
+    let mut seen = SeenInEach::default();
     for call in calls {
         let (answer, after) = answer_to(&call, &mut from).map_err(|error| {
             io::Error::new(error.kind(), format!("no answer to {}: {error}", name(&call)))
@@ -113,8 +147,9 @@ fn ask(seed: u64, messages: u64, pairs: u64, mut to: ChildStdin, compared: SyncS
     let verdicts = (0..messages).flat_map(|index| verdict_calls(seed, index));
     let regroups = (0..pairs).flat_map(|index| regroup_calls(seed, index));
     for call in verdicts.chain(regroups) {
-        let mut frame = Vec::with_capacity(40 + call.lent.len());
-        frame.extend(call.profile.to_le_bytes());
+        let mut frame = Vec::with_capacity(48 + call.lent.len());
+        frame.extend(call.said.profile.to_le_bytes());
+        frame.extend(call.said.archived.to_le_bytes());
         let parts = call.parts.iter().flat_map(|(place, length)| [*place, *length]);
         for number in [call.kind as u32, call.lent.len() as u32].into_iter().chain(parts) {
             frame.extend(number.to_le_bytes());
@@ -140,38 +175,44 @@ fn answer_to(call: &Call, from: &mut ChildStdout) -> io::Result<([u64; 6], Vec<u
     Ok((answer, after))
 }
 
-/// The profiles under which a case is read, as C names them: its own, and for one in eight the other too.
-fn profiles(own: Profile, random: &mut Random) -> Vec<u64> {
-    let both = [own, own.other()];
-    let many = if random.below(8) == 0 { 2 } else { 1 };
-    both[..many].iter().map(|profile| number_of(*profile, random)).collect()
+/// How a case is read: under its own profile, and for one in eight the other too; as its own age, and for one in eight the other too.
+fn readings(profile: Profile, age: Age, random: &mut Random) -> Vec<Said> {
+    let profiles = one_or_both([profile, profile.other()], random);
+    let ages = one_or_both([age, age.other()], random);
+    let all = profiles.into_iter().flat_map(|profile| ages.iter().map(move |age| (profile, *age)));
+    all.map(|(profile, age)| numbers_of(profile, age, random)).collect()
 }
 
-/// Now and then the first profile has a number that names none.
-fn number_of(profile: Profile, random: &mut Random) -> u64 {
-    if !profile.instant && random.below(20) == 0 {
-        return *random.pick(&UNKNOWN);
+fn one_or_both<T: Copy>(both: [T; 2], random: &mut Random) -> Vec<T> {
+    both[..if random.below(8) == 0 { 2 } else { 1 }].to_vec()
+}
+
+/// Now and then the first profile has a number that names none, and what is archived another number than 1.
+fn numbers_of(profile: Profile, age: Age, random: &mut Random) -> Said {
+    let (unknown, other) = (random.below(20) == 0, random.below(5) == 0);
+    Said {
+        profile: if unknown && !profile.instant { *random.pick(&UNKNOWN) } else { profile.number() },
+        archived: if other && age == Age::Archived { *random.pick(&ARCHIVED) } else { age.number() },
     }
-    profile.number()
 }
 
 fn verdict_calls(seed: u64, index: u64) -> Vec<Call> {
     let random = &mut Random::new(seed ^ 0x7AB1E, index);
     let case = generate::case(seed, index);
     let message = if random.below(1000) == 0 { Vec::new() } else { case.message };
-    let profiles = profiles(case.profile, random);
-    profiles.into_iter().map(|profile| verdict_call(index, profile, &message, case.table, random)).collect()
+    let readings = readings(case.profile, case.age, random);
+    readings.into_iter().map(|said| verdict_call(index, said, &message, case.table, random)).collect()
 }
 
-fn verdict_call(index: u64, profile: u64, message: &[u8], numbers: usize, random: &mut Random) -> Call {
+fn verdict_call(index: u64, said: Said, message: &[u8], numbers: usize, random: &mut Random) -> Call {
     let table = noise(table_bytes(numbers, random), random);
     let (lent, parts) = lay([message, &table, &[]], random);
-    let (answer, table) = independent_verdict(profile, message, table);
+    let (answer, table) = independent_verdict(said, message, table);
     let mut after = lent.clone();
     if parts[1].0 != NULL {
         after[range(parts[1])].copy_from_slice(&table);
     }
-    Call { kind: Kind::Verdict, index, profile, lent, parts, answer, after }
+    Call { kind: Kind::Verdict, index, said, not_provided: false, lent, parts, answer, after }
 }
 
 /// Lengths around the least, odd ones, very short and long ones.
@@ -189,14 +230,23 @@ fn table_bytes(numbers: usize, random: &mut Random) -> usize {
 fn regroup_calls(seed: u64, index: u64) -> Vec<Call> {
     let random = &mut Random::new(seed ^ 0x115, index);
     let pair = generate::pair(seed, index);
-    let profiles = profiles(pair.profile, random);
-    profiles.into_iter().map(|profile| regroup_call(index, profile, &pair, random)).collect()
+    let readings = readings(pair.profile, pair.age, random);
+    readings.into_iter().map(|said| regroup_call(index, said, &pair, random)).collect()
 }
 
-fn regroup_call(index: u64, profile: u64, pair: &Pair, random: &mut Random) -> Call {
+fn regroup_call(index: u64, said: Said, pair: &Pair, random: &mut Random) -> Call {
     let (lent, parts) = lay([&pair.first, &pair.second, &pair.list], random);
-    let answer = independent_regroup(profile, pair);
-    Call { kind: Kind::Regroup, index, profile, after: lent.clone(), lent, parts, answer }
+    let answer = independent_regroup(said, pair);
+    let not_provided = answer[1] == 20 && answer[5] == AGENT && agent_of_first(said, pair, answer[4]) == NOT_PROVIDED;
+    Call { kind: Kind::Regroup, index, said, not_provided, after: lent.clone(), lent, parts, answer }
+}
+
+/// The agent of the payment that the list names at k, as the first message has it.
+fn agent_of_first(said: Said, pair: &Pair, k: u64) -> &[u8] {
+    let at = 7 + 2 * k as usize;
+    let named = u16::from_be_bytes([pair.list[at], pair.list[at + 1]]);
+    let (start, length) = field(said.profile(), said.age(), &pair.first, named.into(), AGENT as usize);
+    &pair.first[start..start + length]
 }
 
 /// The parts with guard bytes around each, at any alignment. An empty part is now and then a null pointer.
@@ -224,9 +274,9 @@ fn range((place, length): (u32, u32)) -> std::ops::Range<usize> {
 }
 
 /// The independent implementation behind the exported function's interface: a table of bytes, high byte first.
-fn independent_verdict(profile: u64, message: &[u8], mut table: Vec<u8>) -> ([u64; 6], Vec<u8>) {
+fn independent_verdict(said: Said, message: &[u8], mut table: Vec<u8>) -> ([u64; 6], Vec<u8>) {
     let mut numbers: Vec<u32> = table.chunks_exact(4).map(|bytes| u32::from_be_bytes(bytes.try_into().unwrap())).collect();
-    let answer = match verdict(Profile::numbered(profile), message, &mut numbers) {
+    let answer = match verdict(said.profile(), said.age(), message, &mut numbers) {
         Verdict::Accepted { blocks, payments, cents } => [0, 0, 0, blocks.into(), payments.into(), cents],
         Verdict::Refused { number, element, offset } => [number.into(), element.into(), offset as u64, 0, 0, 0],
     };
@@ -236,8 +286,8 @@ fn independent_verdict(profile: u64, message: &[u8], mut table: Vec<u8>) -> ([u6
     (answer, table)
 }
 
-fn independent_regroup(profile: u64, pair: &Pair) -> [u64; 6] {
-    match regroup(Profile::numbered(profile), &pair.first, &pair.second, &pair.list) {
+fn independent_regroup(said: Said, pair: &Pair) -> [u64; 6] {
+    match regroup(said.profile(), said.age(), &pair.first, &pair.second, &pair.list) {
         Regroup::Accepted => [0; 6],
         Regroup::Message { whose, refusal } => {
             [whose.into(), refusal.number.into(), refusal.element.into(), refusal.offset as u64, 0, 0]
@@ -248,7 +298,7 @@ fn independent_regroup(profile: u64, pair: &Pair) -> [u64; 6] {
 
 fn name(call: &Call) -> String {
     let kind = if call.kind == Kind::Verdict { "verdict" } else { "regrouping" };
-    format!("{kind} {} profile {}", call.index, call.profile)
+    format!("{kind} {} profile {} archived {}", call.index, call.said.profile, call.said.archived)
 }
 
 fn report(call: &Call, answer: &[u64; 6], after: &[u8], folder: &Path) -> io::Result<()> {
@@ -306,7 +356,7 @@ impl Reached {
         let seen = |(number, row): &(u64, u64)| self.0.get(number).is_some_and(|(_, rows)| rows.contains(row));
         let missing: Vec<&(u64, u64)> = wanted.iter().filter(|wanted| !seen(wanted)).collect();
         if !missing.is_empty() {
-            println!("NEVER REACHED: {of} profile, refusal and row {missing:?}");
+            println!("NEVER REACHED: {of}, refusal and row {missing:?}");
         }
         missing.is_empty()
     }
@@ -319,41 +369,109 @@ impl Reached {
         }
         missing.is_empty()
     }
+
+    /// Says that this number was reached, which can't be; whether it was not.
+    fn never(&self, number: u64, of: &str) -> bool {
+        let times = self.0.get(&number).map_or(0, |(times, _)| *times);
+        if times > 0 {
+            println!("REACHED: {of} {number}, {times} times");
+        }
+        times == 0
+    }
 }
 
-#[derive(Default)]
-struct SeenUnderEach {
+/// A profile and an age, with what was seen of it.
+struct Each {
+    instant: bool,
+    age: Age,
+    seen: Seen,
+}
+
+struct SeenInEach {
     differences: usize,
-    first: Seen,
-    instant: Seen,
+    each: Vec<Each>,
     /// The numbers that named the profile of a verdict, and of a regrouping.
     verdicts: Reached,
     regroupings: Reached,
+    /// The numbers that said whether the message of a verdict is archived, and the first of a regrouping.
+    messages: Reached,
+    firsts: Reached,
 }
 
-impl SeenUnderEach {
+impl Default for SeenInEach {
+    fn default() -> Self {
+        let all = Profile::BOTH.into_iter().flat_map(|profile| Age::BOTH.map(|age| (profile.instant, age)));
+        SeenInEach {
+            differences: 0,
+            each: all.map(|(instant, age)| Each { instant, age, seen: Seen::default() }).collect(),
+            verdicts: Reached::default(),
+            regroupings: Reached::default(),
+            messages: Reached::default(),
+            firsts: Reached::default(),
+        }
+    }
+}
+
+impl SeenInEach {
     fn add(&mut self, call: &Call) {
-        let seen = if Profile::numbered(call.profile).instant { &mut self.instant } else { &mut self.first };
-        seen.add(call);
-        let numbers = if call.kind == Kind::Verdict { &mut self.verdicts } else { &mut self.regroupings };
-        numbers.add(call.profile, 0);
+        let own = |each: &&mut Each| each.instant == call.said.profile().instant && each.age == call.said.age();
+        self.each.iter_mut().find(own).expect("one of the four").seen.add(call);
+        let (profiles, ages) = match call.kind {
+            Kind::Verdict => (&mut self.verdicts, &mut self.messages),
+            Kind::Regroup => (&mut self.regroupings, &mut self.firsts),
+        };
+        profiles.add(call.said.profile, 0);
+        ages.add(call.said.archived, 0);
     }
 
-    /// Whether under each profile all that can be reached was.
+    /// Whether under each profile, as new and as archived, all that can be reached was and nothing else.
     fn print(&self) -> bool {
         self.verdicts.print_numbers("profiles of verdicts");
         self.regroupings.print_numbers("profiles of regroupings");
-        let numbers = || [0, 1].into_iter().chain(UNKNOWN);
-        [
-            self.first.print("first"),
-            self.instant.print("instant"),
-            self.first.messages.on(&OF_FIRST, "first"),
-            self.instant.messages.on(&OF_INSTANT, "instant"),
-            self.verdicts.all(numbers(), "a verdict's profile"),
-            self.regroupings.all(numbers(), "a regrouping's profile"),
-        ]
-        .into_iter()
-        .all(|reached| reached)
+        self.messages.print_numbers("archived of verdicts");
+        self.firsts.print_numbers("archived of regroupings");
+        let profiles = || [0, 1].into_iter().chain(UNKNOWN);
+        let ages = || [0, 1].into_iter().chain(ARCHIVED);
+        let named = [
+            self.verdicts.all(profiles(), "a verdict's profile"),
+            self.regroupings.all(profiles(), "a regrouping's profile"),
+            self.messages.all(ages(), "a verdict's archived"),
+            self.firsts.all(ages(), "a regrouping's archived"),
+        ];
+        let reached: Vec<bool> = self.each.iter().map(Each::print).collect();
+        named.into_iter().chain(reached).all(|reached| reached)
+    }
+}
+
+impl Each {
+    /// Whether all that can be reached was, and nothing else.
+    fn print(&self) -> bool {
+        let seen = &self.seen;
+        let profile = if self.instant { "instant" } else { "first" };
+        let archived = self.age == Age::Archived;
+        let name = format!("{profile} profile, {}", if archived { "archived" } else { "new" });
+        let rows: &[(u64, u64)] = if self.instant { &OF_INSTANT } else { &OF_FIRST };
+        let of_age: &[(u64, u64)] = if archived { &OF_ARCHIVED } else { &OF_NEW };
+        let withdrawn = || std::iter::once(WITHDRAWN);
+        let of_first = format!("{name}, the first message's refusal");
+        let mut held = vec![
+            seen.print(&name),
+            seen.messages.on(rows, &name),
+            seen.messages.on(&OF_AGENTS, &name),
+            seen.messages.on(of_age, &name),
+            seen.seconds.all(withdrawn(), &format!("{name}, the second message's refusal")),
+        ];
+        let not_provided = format!("{name}, differing field, the agent not provided in the first message");
+        if archived {
+            seen.not_provided.print_numbers(&not_provided);
+            held.push(seen.messages.never(WITHDRAWN, &format!("{name}, verdict")));
+            held.push(seen.firsts.never(WITHDRAWN, &of_first));
+            held.push(seen.not_provided.all(std::iter::once(AGENT), &not_provided));
+        } else {
+            held.push(seen.firsts.all(withdrawn(), &of_first));
+            held.push(seen.not_provided.never(AGENT, &not_provided));
+        }
+        held.into_iter().all(|held| held)
     }
 }
 
@@ -364,11 +482,16 @@ struct Seen {
     seconds: Reached,
     pairs: Reached,
     fields: Reached,
+    /// The field that differs since the first message holds row 32.
+    not_provided: Reached,
 }
 
 impl Seen {
     fn add(&mut self, call: &Call) {
         let answer = &call.answer;
+        if call.not_provided {
+            self.not_provided.add(answer[5], 0);
+        }
         match (call.kind, answer[0]) {
             (Kind::Verdict, number) => self.messages.add(number, answer[1]),
             (Kind::Regroup, 0) => {
@@ -382,9 +505,9 @@ impl Seen {
         }
     }
 
-    /// Whether all that can be reached was.
-    fn print(&self, profile: &str) -> bool {
-        let titled = |what| format!("{profile} profile, {what}");
+    /// Whether all that can be reached was, whichever the profile and the age.
+    fn print(&self, name: &str) -> bool {
+        let titled = |what| format!("{name}, {what}");
         self.messages.print(&titled("verdicts"), "elements");
         self.pairs.print(&titled("regroupings"), "fields");
         self.firsts.print(&titled("regroupings, the first message refused"), "elements");

@@ -3,14 +3,20 @@
 use crate::counts::amount;
 use crate::order::{part, Order, Payment};
 use crate::rows::Node;
-use crate::{read, Profile};
+use crate::{read, Age, Profile};
 
 pub const FIELDS: std::ops::RangeInclusive<u32> = 1..=17;
 
 /// Where a field's text stands in the message, and how long it is; the empty
 /// part at 0 where there is none.
-pub fn field(profile: Profile, message: &[u8], payment: usize, field: usize) -> (usize, usize) {
-    let Ok(accepted) = read(profile, message) else { return (0, 0) };
+pub fn field(
+    profile: Profile,
+    age: Age,
+    message: &[u8],
+    payment: usize,
+    field: usize,
+) -> (usize, usize) {
+    let Ok(accepted) = read(profile, age, message) else { return (0, 0) };
     let payments = accepted.order.payments();
     let known = payments.get(payment).zip(u32::try_from(field).ok());
     let part = part(known.and_then(|(payment, field)| element(payment, field)));

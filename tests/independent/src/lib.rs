@@ -1,7 +1,9 @@
 //! An independent reading of the rules: the verdict on one pain.001.001.09
-//! message under a profile, the seventeen fields of its payments, and the
-//! regrouping of one message by another. Written from the rules alone.
+//! message under a profile, read as new or as archived, the seventeen fields of
+//! its payments, and the regrouping of one message by another. Written from the
+//! rules alone.
 
+pub mod age;
 pub mod counts;
 pub mod fields;
 pub mod form;
@@ -14,6 +16,7 @@ pub mod table;
 pub mod usage;
 pub mod values;
 
+pub use age::Age;
 pub use fields::field;
 pub use form::{form, Tree};
 pub use profile::Profile;
@@ -65,8 +68,8 @@ impl fmt::Display for Verdict {
 }
 
 /// The verdict on a message; the lent table is filled only on acceptance.
-pub fn verdict(profile: Profile, message: &[u8], table: &mut [u32]) -> Verdict {
-    match judge(profile, message, table) {
+pub fn verdict(profile: Profile, age: Age, message: &[u8], table: &mut [u32]) -> Verdict {
+    match judge(profile, age, message, table) {
         Ok(accepted) => {
             table::fill(&accepted.order, table);
             Verdict::Accepted {
@@ -79,11 +82,16 @@ pub fn verdict(profile: Profile, message: &[u8], table: &mut [u32]) -> Verdict {
     }
 }
 
-fn judge<'m>(profile: Profile, message: &'m [u8], table: &[u32]) -> Result<Accepted<'m>, Refusal> {
+fn judge<'m>(
+    profile: Profile,
+    age: Age,
+    message: &'m [u8],
+    table: &[u32],
+) -> Result<Accepted<'m>, Refusal> {
     if table.len() < table::LEAST_NUMBERS {
         return Err(Refusal::new(14, 0, 0));
     }
-    read(profile, message)
+    read(profile, age, message)
 }
 
 pub(crate) struct Accepted<'m> {
@@ -92,14 +100,14 @@ pub(crate) struct Accepted<'m> {
 }
 
 /// All stages but the table's, in their order.
-pub(crate) fn read(profile: Profile, message: &[u8]) -> Result<Accepted<'_>, Refusal> {
+pub(crate) fn read(profile: Profile, age: Age, message: &[u8]) -> Result<Accepted<'_>, Refusal> {
     if message.len() > LONGEST_MESSAGE {
         return Err(Refusal::new(1, 0, LONGEST_MESSAGE));
     }
     let tree = form(message).map_err(|offset| Refusal::new(2, 0, offset))?;
     let order = Order { message, root: rows::place(profile, message, &tree)? };
     usage::limits(&order)?;
-    values::check(&order)?;
+    values::check(age, &order)?;
     usage::inheritance(&order)?;
     usage::block_ids(&order)?;
     let cents = counts::check(&order)?;

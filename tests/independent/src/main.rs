@@ -1,7 +1,7 @@
 //! The command line: verdict, form, regroup, and the generator's cases.
 
 use independent::generate::{self, Case, Pair};
-use independent::{form, regroup, verdict, Profile, Regroup, Verdict};
+use independent::{form, regroup, verdict, Age, Profile, Regroup, Verdict};
 use std::collections::{BTreeMap, BTreeSet};
 use std::ffi::OsString;
 use std::fs;
@@ -9,14 +9,17 @@ use std::io::{self, BufWriter, Read, Write};
 use std::process::ExitCode;
 
 const USAGE: &str = "\
-independent verdict [--instant] [FILE..]
+independent verdict [--instant] [--archived] [FILE..]
 independent form [FILE..]
-independent regroup [--instant] FIRST SECOND LIST
-independent cases SEED N     N messages, each after its profile and its length (u32, low byte first)
-independent pairs SEED N     N times a profile, and first, second and list after their lengths
+independent regroup [--instant] [--archived] FIRST SECOND LIST
+independent cases SEED N     N messages, each after its profile, 1 if it is archived or else 0,
+                             and its length (u32, low byte first)
+independent pairs SEED N     N times a profile, 1 if the first message is archived or else 0,
+                             and first, second and list after their lengths
 independent count SEED N     how often each refusal is reached in N messages and N pairs
 
---instant: read under the instant profile";
+--instant: read under the instant profile
+--archived: read as archived; of a regrouping the first message";
 
 fn main() -> ExitCode {
     let arguments: Vec<OsString> = std::env::args_os().skip(1).collect();
@@ -34,13 +37,16 @@ fn main() -> ExitCode {
 /// Whether the arguments were understood.
 fn run(arguments: &[OsString], out: &mut impl Write) -> io::Result<bool> {
     let Some((command, rest)) = arguments.split_first() else { return Ok(false) };
-    let (profile, named) = profile_named(rest);
+    let (profile, age, named) = said_by_flags(rest);
     match (command.to_str(), rest) {
-        (Some("verdict"), _) => each_file(named, |message| verdict_lines(profile, message), out)?,
+        (Some("verdict"), _) => {
+            each_file(named, |message| verdict_lines(profile, age, message), out)?;
+        }
         (Some("form"), files) => each_file(files, form_lines, out)?,
         (Some("regroup"), _) => {
             let [first, second, list] = named else { return Ok(false) };
-            let answer = regroup(profile, &contents(first), &contents(second), &contents(list));
+            let [first, second, list] = [first, second, list].map(contents);
+            let answer = regroup(profile, age, &first, &second, &list);
             writeln!(out, "{answer}")?;
         }
         (Some(command @ ("cases" | "pairs" | "count")), [seed, many]) => {
@@ -52,12 +58,18 @@ fn run(arguments: &[OsString], out: &mut impl Write) -> io::Result<bool> {
     Ok(true)
 }
 
-/// The profile that `--instant` or its absence names, and what follows.
-fn profile_named(arguments: &[OsString]) -> (Profile, &[OsString]) {
-    match arguments.split_first() {
-        Some((flag, rest)) if flag == "--instant" => (Profile::INSTANT, rest),
-        _ => (Profile::FIRST, arguments),
+/// What `--instant` and `--archived`, or their absence, say, and what follows.
+fn said_by_flags(arguments: &[OsString]) -> (Profile, Age, &[OsString]) {
+    let (mut profile, mut age, mut rest) = (Profile::FIRST, Age::New, arguments);
+    while let Some((flag, behind)) = rest.split_first() {
+        match flag.to_str() {
+            Some("--instant") => profile = Profile::INSTANT,
+            Some("--archived") => age = Age::Archived,
+            _ => break,
+        }
+        rest = behind;
     }
+    (profile, age, rest)
 }
 
 fn number(argument: &OsString) -> Option<u64> {
@@ -96,9 +108,9 @@ fn form_lines(message: &[u8]) -> Vec<String> {
     }]
 }
 
-fn verdict_lines(profile: Profile, message: &[u8]) -> Vec<String> {
+fn verdict_lines(profile: Profile, age: Age, message: &[u8]) -> Vec<String> {
     let mut table = [0; 1024];
-    let answer = verdict(profile, message, &mut table);
+    let answer = verdict(profile, age, message, &mut table);
     let payments = match answer {
         Verdict::Accepted { payments, .. } => payments as usize,
         Verdict::Refused { .. } => 0,
@@ -122,18 +134,20 @@ fn generated(command: &str, seed: u64, many: u64, out: &mut impl Write) -> io::R
     match command {
         "cases" => (0..many).try_for_each(|index| {
             let case = generate::case(seed, index);
-            framed(case.profile, &[case.message], out)
+            framed(case.profile, case.age, &[case.message], out)
         }),
         "pairs" => (0..many).try_for_each(|index| {
             let pair = generate::pair(seed, index);
-            framed(pair.profile, &[pair.first, pair.second, pair.list], out)
+            framed(pair.profile, pair.age, &[pair.first, pair.second, pair.list], out)
         }),
         _ => count(seed, many, out),
     }
 }
 
-fn framed(profile: Profile, parts: &[Vec<u8>], out: &mut impl Write) -> io::Result<()> {
-    out.write_all(&(profile.number() as u32).to_le_bytes())?;
+fn framed(profile: Profile, age: Age, parts: &[Vec<u8>], out: &mut impl Write) -> io::Result<()> {
+    for number in [profile.number(), age.number()] {
+        out.write_all(&(number as u32).to_le_bytes())?;
+    }
     parts.iter().try_for_each(|bytes| {
         out.write_all(&(bytes.len() as u32).to_le_bytes())?;
         out.write_all(bytes)
@@ -164,12 +178,17 @@ impl Reached {
 
 fn count(seed: u64, many: u64, out: &mut impl Write) -> io::Result<()> {
     for (profile, name) in Profile::BOTH.into_iter().zip(["first", "instant"]) {
-        let cases = (0..many).map(|index| generate::case(seed, index));
-        let pairs = (0..many).map(|index| generate::pair(seed, index));
-        reached_by(cases.filter(|case| case.profile == profile))
-            .print(&format!("{name} profile, messages (refusal, times, elements)"), out)?;
-        reached_by_pairs(pairs.filter(|pair| pair.profile == profile))
-            .print(&format!("{name} profile, pairs (refusal, times, elements or fields)"), out)?;
+        for (age, how) in Age::BOTH.into_iter().zip(["new", "archived"]) {
+            let read_so = (profile, age);
+            let cases = (0..many).map(|index| generate::case(seed, index));
+            let pairs = (0..many).map(|index| generate::pair(seed, index));
+            let cases = cases.filter(|case| (case.profile, case.age) == read_so);
+            let pairs = pairs.filter(|pair| (pair.profile, pair.age) == read_so);
+            let title = format!("{name} profile, {how} messages (refusal, times, elements)");
+            reached_by(cases).print(&title, out)?;
+            let title = format!("{name} profile, {how} first of pairs (the same, or fields)");
+            reached_by_pairs(pairs).print(&title, out)?;
+        }
     }
     Ok(())
 }
@@ -177,7 +196,7 @@ fn count(seed: u64, many: u64, out: &mut impl Write) -> io::Result<()> {
 fn reached_by(cases: impl Iterator<Item = Case>) -> Reached {
     let mut reached = Reached::default();
     for case in cases {
-        match verdict(case.profile, &case.message, &mut vec![0; case.table]) {
+        match verdict(case.profile, case.age, &case.message, &mut vec![0; case.table]) {
             Verdict::Accepted { .. } => reached.add(0, 0),
             Verdict::Refused { number, element, .. } => reached.add(number, element),
         }
@@ -188,7 +207,7 @@ fn reached_by(cases: impl Iterator<Item = Case>) -> Reached {
 fn reached_by_pairs(pairs: impl Iterator<Item = Pair>) -> Reached {
     let mut reached = Reached::default();
     for pair in pairs {
-        match regroup(pair.profile, &pair.first, &pair.second, &pair.list) {
+        match regroup(pair.profile, pair.age, &pair.first, &pair.second, &pair.list) {
             Regroup::Accepted => reached.add(0, 0),
             Regroup::Message { refusal, .. } => reached.add(refusal.number, refusal.element),
             Regroup::Refused { number, field, .. } => reached.add(number, field),

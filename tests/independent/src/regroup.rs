@@ -1,7 +1,7 @@
 //! The regrouping list: refusals 15 to 20 and the differing part.
 
 use crate::fields::lowest_difference;
-use crate::{read, Accepted, Profile, Refusal};
+use crate::{read, Accepted, Age, Profile, Refusal};
 use std::fmt;
 
 #[derive(Clone, Copy, Debug, PartialEq, Eq)]
@@ -32,9 +32,10 @@ impl fmt::Display for Regroup {
     }
 }
 
-/// Whether the second message regroups the first by that list; one profile for both.
-pub fn regroup(profile: Profile, first: &[u8], second: &[u8], list: &[u8]) -> Regroup {
-    let both = read_both(profile, first, second);
+/// Whether the second message regroups the first by that list; one profile for both. The age is
+/// the first message's; the second is read as new.
+pub fn regroup(profile: Profile, age: Age, first: &[u8], second: &[u8], list: &[u8]) -> Regroup {
+    let both = read_both(profile, age, first, second);
     match both.and_then(|(first, second)| judge(&first, &second, list)) {
         Ok(()) => Regroup::Accepted,
         Err(refused) => refused,
@@ -43,20 +44,30 @@ pub fn regroup(profile: Profile, first: &[u8], second: &[u8], list: &[u8]) -> Re
 
 /// For refusal 20, where the differing field's text stands in the second
 /// message; otherwise the empty part at 0.
-pub fn differing(profile: Profile, first: &[u8], second: &[u8], list: &[u8]) -> (usize, usize) {
-    let Regroup::Refused { number: 20, k, field } = regroup(profile, first, second, list) else {
-        return (0, 0);
-    };
-    crate::field(profile, second, k as usize, field as usize)
+pub fn differing(
+    profile: Profile,
+    age: Age,
+    first: &[u8],
+    second: &[u8],
+    list: &[u8],
+) -> (usize, usize) {
+    match regroup(profile, age, first, second, list) {
+        Regroup::Refused { number: 20, k, field } => {
+            crate::field(profile, Age::New, second, k as usize, field as usize)
+        }
+        _ => (0, 0),
+    }
 }
 
 fn read_both<'f, 's>(
     profile: Profile,
+    age: Age,
     first: &'f [u8],
     second: &'s [u8],
 ) -> Result<(Accepted<'f>, Accepted<'s>), Regroup> {
-    let first = read(profile, first).map_err(|refusal| Regroup::Message { whose: 1, refusal })?;
-    let second = read(profile, second).map_err(|refusal| Regroup::Message { whose: 2, refusal })?;
+    let of = |whose| move |refusal| Regroup::Message { whose, refusal };
+    let first = read(profile, age, first).map_err(of(1))?;
+    let second = read(profile, Age::New, second).map_err(of(2))?;
     Ok((first, second))
 }
 

@@ -1,8 +1,8 @@
-//! Refusals 6, 7 and 8: one walk over the leaves in the order of the file.
+//! Refusals 6, 7, 8 and 28: one walk over the elements in the order of the file.
 
 use crate::order::Order;
 use crate::rows::{longest, Node};
-use crate::Refusal;
+use crate::{Age, Refusal};
 
 #[derive(Clone, Copy, Debug, PartialEq, Eq)]
 pub enum Fault {
@@ -30,15 +30,22 @@ pub const COUNTRIES: [(&str, usize); 12] = [
     ("IT", 27),
 ];
 
-pub fn check(order: &Order) -> Result<(), Refusal> {
-    walk(order, &order.root, 0)
+/// Row 32, which a new message may no longer hold.
+const WITHDRAWN: u32 = 32;
+
+pub fn check(age: Age, order: &Order) -> Result<(), Refusal> {
+    walk(age, order, &order.root, 0)
 }
 
-fn walk(order: &Order, node: &Node, parent: u32) -> Result<(), Refusal> {
+/// An element, and after it all that stands in it.
+fn walk(age: Age, order: &Order, node: &Node, parent: u32) -> Result<(), Refusal> {
     if longest(node.row).is_some() {
         return leaf(order, node, parent);
     }
-    node.children.iter().try_for_each(|child| walk(order, child, node.row))
+    if node.row == WITHDRAWN && age == Age::New {
+        return Err(Refusal::new(28, node.row, node.offset));
+    }
+    node.children.iter().try_for_each(|child| walk(age, order, child, node.row))
 }
 
 fn leaf(order: &Order, leaf: &Node, parent: u32) -> Result<(), Refusal> {

@@ -51,6 +51,16 @@ fn verdict_and_form() {
     assert_eq!(printed(&["verdict", "--instant"], i1().as_bytes()), ACCEPTED);
     assert_eq!(printed(&["verdict", "--instant", &one], b""), "REFUSED 4 element=56 offset=371\n");
     assert_eq!(printed(&["verdict"], i1().as_bytes()), "REFUSED 3 element=16 offset=371\n");
+    let other = not_provided(M1);
+    let withdrawn = format!("REFUSED 28 element=32 offset={}\n", other.find("<Othr>").unwrap());
+    assert_eq!(printed(&["verdict"], other.as_bytes()), withdrawn);
+    assert_eq!(printed(&["verdict", "--archived"], other.as_bytes()), ACCEPTED);
+    assert_eq!(printed(&["verdict", "--archived", &one], b""), ACCEPTED);
+    let other = not_provided(&i1());
+    for flags in [["--instant", "--archived"], ["--archived", "--instant"]] {
+        let arguments = [&["verdict"][..], &flags].concat();
+        assert_eq!(printed(&arguments, other.as_bytes()), ACCEPTED);
+    }
     assert_eq!(printed(&["form"], M1.as_bytes()), "of the form\n");
     assert_eq!(printed(&["form"], b"<Document>"), "refused at 9\n");
 }
@@ -75,6 +85,18 @@ fn regrouping() {
     assert_eq!(answer([&instant, &instant, &rising]), "ACCEPTED\n");
     assert_eq!(answer([&instant, &instant, &falling]), "REFUSED 20 k=0 field=10\n");
     assert_eq!(answer([&instant, &first, &rising]), "SECOND REFUSED 4 element=56 offset=371\n");
+    let other = not_provided(M1);
+    let withdrawn = format!("REFUSED 28 element=32 offset={}\n", other.find("<Othr>").unwrap());
+    let other = file("other.xml", other.as_bytes());
+    let answer = |flag: Option<&str>, messages: [&str; 2]| {
+        let flags: Vec<&str> = ["regroup"].into_iter().chain(flag).collect();
+        printed(&[&flags[..], &messages, &[&rising]].concat(), b"")
+    };
+    let archived = Some("--archived");
+    assert_eq!(answer(None, [&other, &first]), format!("FIRST {withdrawn}"));
+    assert_eq!(answer(archived, [&other, &first]), "REFUSED 20 k=0 field=7\n");
+    assert_eq!(answer(archived, [&other, &other]), format!("SECOND {withdrawn}"));
+    assert_eq!(answer(archived, [&first, &first]), "ACCEPTED\n");
 }
 
 #[test]
@@ -84,17 +106,19 @@ fn framed_cases() {
     let mut rest = &framed[..];
     for index in 0..20 {
         let (profile, after) = rest.split_first_chunk::<4>().unwrap();
+        let (archived, after) = after.split_first_chunk::<4>().unwrap();
         let (length, after) = after.split_first_chunk::<4>().unwrap();
         let (message, after) = after.split_at(u32::from_le_bytes(*length) as usize);
         let case = independent::generate::case(5, index);
         assert_eq!(u64::from(u32::from_le_bytes(*profile)), case.profile.number());
+        assert_eq!(u64::from(u32::from_le_bytes(*archived)), case.age.number());
         assert_eq!(message, case.message);
         rest = after;
     }
     assert!(rest.is_empty());
     let counted = printed(&["count", "5", "20"], b"");
-    assert!(counted.starts_with("first profile, messages"));
-    assert!(counted.contains("\ninstant profile, pairs"));
+    assert!(counted.starts_with("first profile, new messages"));
+    assert!(counted.contains("\ninstant profile, archived first of pairs"));
 }
 
 #[test]
@@ -104,6 +128,7 @@ fn wrong_arguments_are_answered_with_the_usage() {
         &["what"],
         &["regroup", "a"],
         &["regroup", "--instant", "a", "b"],
+        &["regroup", "--archived", "a", "b"],
         &["cases", "x", "1"],
         &["count"],
     ] {

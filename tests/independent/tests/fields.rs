@@ -4,7 +4,7 @@ mod common;
 use common::asked::{self, Asked};
 use common::pairs::{self, Pair};
 use common::*;
-use independent::{differing, field, regroup, verdict, Profile, Regroup, Verdict};
+use independent::{differing, field, regroup, verdict, Age, Profile, Regroup, Verdict};
 use std::collections::BTreeSet;
 
 /// The fields that a payment need not have.
@@ -41,9 +41,9 @@ struct Of<'m> {
 }
 
 fn fields_of(asked: &Asked) -> Vec<Of<'_>> {
-    let Asked { profile, message, payment, fields, .. } = asked;
+    let Asked { profile, age, message, payment, fields, .. } = asked;
     let mut table = [0; 1024];
-    let answer = verdict(*profile, message.as_bytes(), &mut table);
+    let answer = verdict(*profile, *age, message.as_bytes(), &mut table);
     let Verdict::Accepted { payments, .. } = answer else { return Vec::new() };
     if *payment >= payments as usize {
         return Vec::new();
@@ -52,7 +52,7 @@ fn fields_of(asked: &Asked) -> Vec<Of<'_>> {
     let known = fields.clone().filter(|number| (1..=17).contains(number));
     known
         .map(|number| {
-            let part = field(*profile, message.as_bytes(), *payment, number);
+            let part = field(*profile, *age, message.as_bytes(), *payment, number);
             let found = Found::new(message, part);
             Of { number, found, block, inherited: part.0 < offset }
         })
@@ -69,17 +69,32 @@ fn every_field() -> Vec<usize> {
     (1..=17).collect()
 }
 
+/// What is asked of messages that are read so.
+fn asked_as(age: Age) -> Vec<Asked> {
+    asked::all().into_iter().filter(|asked| asked.age == age).collect()
+}
+
+fn pairs_as(age: Age) -> Vec<Pair> {
+    pairs::all().into_iter().filter(|pair| pair.age == age).collect()
+}
+
 #[test]
 fn every_field_is_asked_for_where_it_is_and_where_it_is_not() {
-    let all = asked::all();
+    for age in Age::BOTH {
+        every_field_is_asked_for(&asked_as(age));
+    }
+    let absent = |of: &Of| of.found.text.is_empty() && of.block > 0;
+    assert_eq!(numbers(&asked_as(Age::New), absent), OPTIONAL);
+}
+
+fn every_field_is_asked_for(all: &[Asked]) {
     let there = |of: &Of| !of.found.text.is_empty();
-    assert_eq!(numbers(&all, there), every_field());
-    assert_eq!(numbers(&all, |of| !there(of)), OPTIONAL);
-    assert_eq!(numbers(&all, |of| there(of) && of.block > 0), every_field());
-    assert_eq!(numbers(&all, |of| !there(of) && of.block > 0), OPTIONAL);
-    assert_eq!(numbers(&all, |of| there(of) && of.inherited), [1, 2, 3, 4, 5, 6, 7, 8]);
+    assert_eq!(numbers(all, there), every_field());
+    assert_eq!(numbers(all, |of| !there(of)), OPTIONAL);
+    assert_eq!(numbers(all, |of| there(of) && of.block > 0), every_field());
+    assert_eq!(numbers(all, |of| there(of) && of.inherited), [1, 2, 3, 4, 5, 6, 7, 8]);
     let own = [2, 3, 8, 9, 10, 11, 12, 13, 14, 15, 16, 17];
-    assert_eq!(numbers(&all, |of| there(of) && !of.inherited), own);
+    assert_eq!(numbers(all, |of| there(of) && !of.inherited), own);
 }
 
 #[test]
@@ -88,7 +103,7 @@ fn agents_remittances_and_amounts_are_written_in_every_way() {
     let fields: Vec<Of> = all.iter().flat_map(fields_of).collect();
     let of = |number| fields.iter().filter(move |of| of.number == number).map(|of| &of.found);
     let named = |number, name| of(number).any(|found| found.name() == name);
-    assert!(named(7, "BICFI") && named(7, "Id") && named(17, "Ustrd"));
+    assert!(named(7, "BICFI") && named(17, "Ustrd"));
     for issuer in [true, false] {
         assert!(of(17).any(|found| found.name() == "Ref" && found.has_issuer() == issuer));
     }
@@ -98,8 +113,23 @@ fn agents_remittances_and_amounts_are_written_in_every_way() {
 }
 
 #[test]
+fn an_agent_that_was_not_provided_is_asked_for_under_both_profiles_as_archived_alone() {
+    for profile in Profile::BOTH {
+        let names = |age| {
+            let all = asked_as(age);
+            let under = all.iter().filter(|asked| asked.profile == profile);
+            let agents = under.flat_map(fields_of).filter(|of| of.number == 7);
+            agents.map(|of| of.found.name().to_string()).collect::<BTreeSet<String>>()
+        };
+        assert_eq!(names(Age::New), BTreeSet::from(["BICFI".to_string()]));
+        let both = ["BICFI", "Id"].map(str::to_string);
+        assert_eq!(names(Age::Archived), BTreeSet::from(both));
+    }
+}
+
+#[test]
 fn unknown_payments_and_fields_are_asked_for() {
-    let all = asked::all();
+    let all = asked_as(Age::New);
     let asks = |payment: usize, number: usize| {
         all.iter().any(|asked| asked.payment == payment && asked.fields.contains(&number))
     };
@@ -109,15 +139,19 @@ fn unknown_payments_and_fields_are_asked_for() {
     for payment in [1, 63, 1 << 32, usize::MAX] {
         assert!(asks(payment, 10), "{payment}");
     }
-    assert_eq!(refusals(&all, Profile::FIRST), BTreeSet::from([2, 3, 4, 6, 7, 8, 9, 10, 12, 13]));
-    assert_eq!(refusals(&all, Profile::INSTANT), BTreeSet::from([3, 4, 6, 8]));
+    let of_first = BTreeSet::from([2, 3, 4, 6, 7, 8, 9, 10, 12, 13, 28]);
+    assert_eq!(refusals(&all, Profile::FIRST), of_first);
+    assert_eq!(refusals(&all, Profile::INSTANT), BTreeSet::from([3, 4, 6, 8, 28]));
     assert!(all.iter().any(|asked| asked.message.is_empty()));
+    let archived = asked_as(Age::Archived);
+    assert_eq!(refusals(&archived, Profile::FIRST), BTreeSet::from([3, 4, 6, 7, 8, 12]));
+    assert_eq!(refusals(&archived, Profile::INSTANT), BTreeSet::from([4, 8]));
 }
 
 /// The refusals of the messages that are asked under this profile.
 fn refusals(all: &[Asked], profile: Profile) -> BTreeSet<u32> {
     let under = all.iter().filter(|asked| asked.profile == profile);
-    let refusals = under.filter_map(|asked| match judge_under(profile, &asked.message) {
+    let refusals = under.filter_map(|asked| match judge_as(profile, asked.age, &asked.message) {
         Verdict::Refused { number, .. } => Some(number),
         Verdict::Accepted { .. } => None,
     });
@@ -127,7 +161,7 @@ fn refusals(all: &[Asked], profile: Profile) -> BTreeSet<u32> {
 #[test]
 fn under_the_instant_profile_every_field_is_asked_for_and_field_4_in_both_ways() {
     let (instant, first): (Vec<Asked>, Vec<Asked>) =
-        asked::all().into_iter().partition(|asked| asked.profile.instant);
+        asked_as(Age::New).into_iter().partition(|asked| asked.profile.instant);
     assert_eq!(numbers(&instant, |of| !of.found.text.is_empty()), every_field());
     let names = |all: &[Asked]| {
         let dates = all.iter().flat_map(fields_of).filter(|of| of.number == 4);
@@ -140,12 +174,12 @@ fn under_the_instant_profile_every_field_is_asked_for_and_field_4_in_both_ways()
 
 #[test]
 fn a_message_of_the_other_profile_is_asked_for_each_way_and_has_no_field() {
-    for profile in Profile::BOTH {
+    for (profile, age) in Profile::BOTH.into_iter().flat_map(|p| Age::BOTH.map(|age| (p, age))) {
         let accepted = accepted(1, 2, 3510);
         let other = |asked: &&Asked| {
-            asked.profile == profile && judge_under(profile.other(), &asked.message) == accepted
+            asked.profile == profile && judge_as(profile.other(), age, &asked.message) == accepted
         };
-        let all = asked::all();
+        let all = asked_as(age);
         let found: Vec<&Asked> = all.iter().filter(other).collect();
         assert!(!found.is_empty(), "{profile:?}");
         assert!(found.iter().flat_map(|asked| asked.texts()).all(|(_, text)| text.is_empty()));
@@ -156,8 +190,8 @@ fn a_message_of_the_other_profile_is_asked_for_each_way_and_has_no_field() {
 fn answers(pair: &Pair) -> [(Regroup, Found<'_>); 2] {
     pair.ways().map(|(first, second)| {
         let (one, two) = (first.as_bytes(), second.as_bytes());
-        let found = Found::new(second, differing(pair.profile, one, two, &pair.list));
-        (regroup(pair.profile, one, two, &pair.list), found)
+        let found = Found::new(second, differing(pair.profile, pair.age, one, two, &pair.list));
+        (regroup(pair.profile, pair.age, one, two, &pair.list), found)
     })
 }
 
@@ -237,23 +271,54 @@ fn remittances_differ_in_kind_in_issuer_and_in_text() {
 
 #[test]
 fn every_answer_is_reached() {
-    let pairs = pairs::all();
-    let reached = pairs.iter().flat_map(answers).map(|(answer, _)| match answer {
-        Regroup::Accepted => (0, 0),
-        Regroup::Message { whose, .. } => (whose, 0),
-        Regroup::Refused { number, k, .. } => (number, k),
-    });
-    let reached: BTreeSet<(u32, u32)> = reached.collect();
-    let wanted = [0, 1, 2, 15, 16, 17, 18, 20].map(|number| (number, 0));
+    let reached = |age| {
+        let pairs = pairs_as(age);
+        let answers = pairs.iter().flat_map(answers).map(|(answer, _)| match answer {
+            Regroup::Accepted => (0, 0),
+            Regroup::Message { whose, refusal } if refusal.number == 28 => (whose, 28),
+            Regroup::Message { whose, .. } => (whose, 0),
+            Regroup::Refused { number, k, .. } => (number, k),
+        });
+        answers.collect::<BTreeSet<(u32, u32)>>()
+    };
+    let at_0 = [0, 1, 2, 15, 16, 17, 18, 20].map(|number| (number, 0));
     let at_1 = [18, 19, 20].map(|number| (number, 1));
-    assert_eq!(reached, wanted.into_iter().chain(at_1).collect());
+    let withdrawn = [1, 2].map(|whose| (whose, 28));
+    let wanted = at_0.into_iter().chain(at_1).chain(withdrawn).collect();
+    assert_eq!(reached(Age::New), wanted);
+    let at_0 = [0, 17, 18, 20].map(|number| (number, 0));
+    let wanted = at_0.into_iter().chain(at_1).chain([(2, 28)]).collect();
+    assert_eq!(reached(Age::Archived), wanted);
+}
+
+#[test]
+fn an_agent_not_provided_differs_from_every_bic_under_both_profiles() {
+    for profile in Profile::BOTH {
+        let pairs = pairs_as(Age::Archived).into_iter().filter(|pair| pair.profile == profile);
+        let (mut sevens, mut lower) = (0, 0);
+        for pair in pairs.filter(|pair| pair.first.contains("<Othr>")) {
+            let [(there, found), (back, none)] = answers(&pair);
+            assert!(matches!(back, Regroup::Message { whose: 2, .. }), "{}", pair.name);
+            assert!(none.text.is_empty());
+            match there {
+                Regroup::Refused { number: 20, field: 7, .. } => {
+                    assert_eq!(found.name(), "BICFI");
+                    sevens += 1;
+                }
+                Regroup::Refused { number: 20, .. } => lower += 1,
+                _ => {}
+            }
+        }
+        assert!(sevens > 1 && lower > 0, "{profile:?}");
+    }
 }
 
 #[test]
 fn the_files_of_the_crate_hold_the_cases_and_the_lines() {
     let folder = concat!(env!("CARGO_MANIFEST_DIR"), "/../../crates/run_fields");
-    let (cases, lines) = written::run_fields();
+    let ([cases, archived], lines) = written::run_fields();
     let file = |name| std::fs::read(format!("{folder}/{name}")).unwrap();
     assert!(file("data/cases") == cases, "examples/fields.rs writes other cases");
+    assert!(file("data/archived") == archived, "examples/fields.rs writes other archived cases");
     assert!(file("stdout") == lines.as_bytes(), "examples/fields.rs writes other lines");
 }

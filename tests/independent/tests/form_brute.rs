@@ -10,7 +10,7 @@ use common::ROOT;
 use independent::form::{form, DECLARATION};
 use independent::generate::random::Random;
 use independent::generate::{case, sound_message};
-use independent::Profile;
+use independent::{Age, Profile};
 use std::cell::Cell;
 use std::collections::BTreeSet;
 
@@ -322,7 +322,8 @@ fn what_is_possible_can_be_completed() {
 fn parts_of_sound_messages_can_be_completed() {
     let random = &mut Random::new(14, 0);
     for index in 0..20 {
-        let message = sound_message(Profile::BOTH[index as usize % 2], 6, index).message;
+        let message =
+            sound_message(Profile::BOTH[index as usize % 2], Age::Archived, 6, index).message;
         let whole = completed(message[..random.below(400.min(message.len()))].to_vec());
         assert!(form(&whole).is_ok(), "{}", String::from_utf8_lossy(&whole));
     }

@@ -6,13 +6,16 @@ use common::list;
 use independent::generate::transfer::{Remittance, Transfer};
 use independent::generate::{case, pair, sound_message};
 use independent::rows::{rows_of, tag};
-use independent::{differing, field, form, regroup, verdict, Profile, Regroup, Verdict};
+use independent::{differing, field, form, regroup, verdict, Age, Profile, Regroup, Verdict};
 use std::collections::{BTreeMap, BTreeSet};
 
 const SEED: u64 = 2026;
 
-fn text(profile: Profile, message: &[u8], payment: usize, number: usize) -> &str {
-    let (start, length) = field(profile, message, payment, number);
+/// How a message is read: its profile and its age.
+type Read = (Profile, Age);
+
+fn text((profile, age): Read, message: &[u8], payment: usize, number: usize) -> &str {
+    let (start, length) = field(profile, age, message, payment, number);
     std::str::from_utf8(&message[start..start + length]).unwrap()
 }
 
@@ -49,12 +52,12 @@ fn expected_texts(transfer: &Transfer) -> [Option<String>; 17] {
 
 #[test]
 fn sound_messages_are_accepted_with_the_fields_they_were_made_of() {
-    for (profile, index) in under_both(100) {
-        let sound = sound_message(profile, SEED, index);
+    for ((profile, age), index) in in_all_four(100) {
+        let sound = sound_message(profile, age, SEED, index);
         for (payment, transfer) in sound.transfers.iter().enumerate().step_by(5) {
             let fields = expected_texts(transfer);
             for (number, wanted) in (1..).zip(&fields) {
-                let found = text(profile, &sound.message, payment, number);
+                let found = text((profile, age), &sound.message, payment, number);
                 match wanted {
                     Some(wanted) => assert_eq!(found, wanted, "field {number}"),
                     None => assert!(number == 11 || ["", "true", "NORM"].contains(&found)),
@@ -64,17 +67,22 @@ fn sound_messages_are_accepted_with_the_fields_they_were_made_of() {
     }
 }
 
-/// Both profiles with so many indices each.
-fn under_both(many: u64) -> impl Iterator<Item = (Profile, u64)> {
-    Profile::BOTH.into_iter().flat_map(move |profile| (0..many).map(move |index| (profile, index)))
+/// Both profiles with both ages.
+fn all_four() -> impl Iterator<Item = Read> {
+    Profile::BOTH.into_iter().flat_map(|profile| Age::BOTH.map(|age| (profile, age)))
+}
+
+/// Each of the four with so many indices.
+fn in_all_four(many: u64) -> impl Iterator<Item = (Read, u64)> {
+    all_four().flat_map(move |read| (0..many).map(move |index| (read, index)))
 }
 
 #[test]
 fn sound_messages_fill_the_table() {
-    for (profile, index) in under_both(400) {
-        let sound = sound_message(profile, SEED + 1, index);
+    for ((profile, age), index) in in_all_four(400) {
+        let sound = sound_message(profile, age, SEED + 1, index);
         let mut table = vec![0xABCD; 1040];
-        let answer = verdict(profile, &sound.message, &mut table);
+        let answer = verdict(profile, age, &sound.message, &mut table);
         let Verdict::Accepted { blocks, payments, cents } = answer else { panic!("{answer:?}") };
         assert_eq!(payments as usize, sound.transfers.len());
         assert_eq!(cents, sound.transfers.iter().map(|transfer| transfer.cents).sum::<u64>());
@@ -104,16 +112,17 @@ fn sound_messages_fill_the_table() {
 
 #[test]
 fn sound_messages_span_the_subset() {
-    for profile in Profile::BOTH {
+    for (profile, age) in all_four() {
         let sounds: Vec<_> =
-            (0..1000).map(|index| sound_message(profile, SEED + 2, index)).collect();
+            (0..1000).map(|index| sound_message(profile, age, SEED + 2, index)).collect();
         let has = |piece: &str| {
             sounds.iter().any(|sound| String::from_utf8_lossy(&sound.message).contains(piece))
         };
         for row in rows_of(profile) {
-            assert!(has(&format!("</{}>", tag(row))), "row {row}");
+            let allowed = row != 32 || age == Age::Archived;
+            assert_eq!(has(&format!("</{}>", tag(row))), allowed, "row {row}");
         }
-        assert!(has("<?xml") && has("\r\n") && has("\t") && has("Othr"));
+        assert!(has("<?xml") && has("\r\n") && has("\t"));
         for zone in ["Z</DtTm>", "+14:00<", "-14:00<", "+00:00<", "-00:00<"] {
             assert_eq!(has(zone), profile.instant, "{zone}");
         }
@@ -121,7 +130,7 @@ fn sound_messages_span_the_subset() {
         let mut blocks = BTreeSet::new();
         let mut payments = BTreeSet::new();
         for sound in &sounds {
-            let answer = verdict(profile, &sound.message, &mut [0; 1024]);
+            let answer = verdict(profile, age, &sound.message, &mut [0; 1024]);
             let Verdict::Accepted { blocks: b, payments: p, .. } = answer else {
                 panic!("{answer:?}")
             };
@@ -135,9 +144,9 @@ fn sound_messages_span_the_subset() {
 
 #[test]
 fn a_sound_message_is_refused_under_the_other_profile() {
-    for (profile, index) in under_both(300) {
-        let message = sound_message(profile, SEED + 5, index).message;
-        let answer = verdict(profile.other(), &message, &mut [0; 1024]);
+    for ((profile, age), index) in in_all_four(300) {
+        let message = sound_message(profile, age, SEED + 5, index).message;
+        let answer = verdict(profile.other(), age, &message, &mut [0; 1024]);
         let Verdict::Refused { number, element, offset } = answer else { panic!("{answer:?}") };
         let at = &message[offset..];
         match (profile.instant, element) {
@@ -152,13 +161,31 @@ fn a_sound_message_is_refused_under_the_other_profile() {
 }
 
 #[test]
+fn a_sound_archived_message_is_refused_as_new_exactly_where_it_holds_row_32() {
+    let mut held = 0;
+    for ((profile, made), index) in in_all_four(300) {
+        let message = sound_message(profile, made, SEED + 6, index).message;
+        let archived = verdict(profile, Age::Archived, &message, &mut [0; 1024]);
+        assert!(matches!(archived, Verdict::Accepted { .. }));
+        let wanted = match message.windows(6).position(|piece| piece == b"<Othr>") {
+            Some(offset) => Verdict::Refused { number: 28, element: 32, offset },
+            None => archived,
+        };
+        assert_eq!(verdict(profile, Age::New, &message, &mut [0; 1024]), wanted);
+        held += u32::from(wanted != archived);
+        assert!(wanted == archived || made == Age::Archived);
+    }
+    assert!((200..400).contains(&held), "{held}");
+}
+
+#[test]
 fn every_reachable_refusal_of_a_message_is_reached() {
-    let mut under: BTreeMap<u64, BTreeMap<u32, BTreeSet<u32>>> = BTreeMap::new();
-    for index in 0..8000 {
+    let mut read: BTreeMap<(u64, Age), BTreeMap<u32, BTreeSet<u32>>> = BTreeMap::new();
+    for index in 0..16000 {
         let case = case(SEED, index);
-        let reached = under.entry(case.profile.number()).or_default();
+        let reached = read.entry((case.profile.number(), case.age)).or_default();
         let mut table = vec![index as u32; case.table];
-        match verdict(case.profile, &case.message, &mut table) {
+        match verdict(case.profile, case.age, &case.message, &mut table) {
             Verdict::Accepted { .. } => drop(reached.entry(0).or_default()),
             Verdict::Refused { number, element, offset } => {
                 reached.entry(number).or_default().insert(element);
@@ -167,73 +194,114 @@ fn every_reachable_refusal_of_a_message_is_reached() {
             }
         }
     }
-    assert_eq!(under.len(), 2);
-    for reached in under.values() {
+    assert_eq!(read.len(), 4);
+    for ((profile, age), reached) in &read {
         let numbers: Vec<u32> = reached.keys().copied().collect();
-        assert_eq!(numbers, (0..=14).collect::<Vec<_>>());
+        let withdrawn = (*age == Age::New).then_some(28);
+        assert_eq!(numbers, (0..=14).chain(withdrawn).collect::<Vec<_>>());
         assert_eq!(reached[&5], BTreeSet::from([10, 37]));
         assert_eq!(reached[&9], BTreeSet::from([16, 34, 36]));
         assert_eq!(reached[&12], BTreeSet::from([6, 14]));
         assert_eq!(reached[&13], BTreeSet::from([7, 15]));
         assert!([3, 4, 6, 7, 8].iter().all(|number| reached[number].len() >= 15));
-        assert!([16, 22].iter().all(|row| reached[&3].contains(row)));
+        assert!([16, 22, 30, 32, 33].iter().all(|row| reached[&3].contains(row)));
+        assert!([31, 33].iter().all(|row| reached[&4].contains(row)));
+        for number in [6, 7, 8] {
+            assert_eq!(reached[&number].contains(&33), *age == Age::Archived, "{number} on 33");
+        }
+        if *profile == Profile::INSTANT.number() {
+            assert!([56, 57, 58].iter().all(|row| reached[&3].contains(row)));
+            assert!([18, 23, 56, 57].iter().all(|row| reached[&4].contains(row)));
+            let wrong = |number: &u32| [57, 58].iter().all(|row| reached[number].contains(row));
+            assert!([6, 7, 8].iter().all(wrong));
+        } else {
+            assert!(reached.values().flatten().all(|row| *row <= 55));
+        }
     }
-    let instant = &under[&1];
-    assert!([56, 57, 58].iter().all(|row| instant[&3].contains(row)));
-    assert!([18, 23, 56, 57].iter().all(|row| instant[&4].contains(row)));
-    assert!([6, 7, 8]
-        .iter()
-        .all(|number| [57, 58].iter().all(|row| instant[number].contains(row))));
-    let rows_of_first = under[&0].values().flatten();
-    assert!(rows_of_first.copied().all(|row| row <= 55));
 }
 
 #[test]
 fn every_regrouping_refusal_is_reached_and_as_expected() {
-    let mut under: BTreeMap<u64, [BTreeSet<u32>; 2]> = BTreeMap::new();
-    for index in 0..5000 {
+    let mut read: BTreeMap<(u64, Age), [BTreeSet<u32>; 2]> = BTreeMap::new();
+    for index in 0..8000 {
         let pair = pair(SEED, index);
-        let [numbers, fields] = under.entry(pair.profile.number()).or_default();
-        let answer = regroup(pair.profile, &pair.first, &pair.second, &pair.list);
+        let [numbers, fields] = read.entry((pair.profile.number(), pair.age)).or_default();
+        let answer = regroup(pair.profile, pair.age, &pair.first, &pair.second, &pair.list);
         if let Some(expected) = pair.expected {
             assert_eq!(answer, expected, "pair {index}");
         }
-        let part = differing(pair.profile, &pair.first, &pair.second, &pair.list);
+        let part = differing(pair.profile, pair.age, &pair.first, &pair.second, &pair.list);
         match answer {
             Regroup::Accepted => drop(numbers.insert(0)),
             Regroup::Message { whose, refusal } => {
-                let message = if whose == 1 { &pair.first } else { &pair.second };
-                let judged = verdict(pair.profile, message, &mut [0; 1024]);
+                let (message, age) =
+                    if whose == 1 { (&pair.first, pair.age) } else { (&pair.second, Age::New) };
+                let judged = verdict(pair.profile, age, message, &mut [0; 1024]);
                 let Verdict::Refused { number, .. } = judged else { panic!() };
                 assert_eq!(number, refusal.number);
                 numbers.insert(100 * whose);
+                if number == 28 {
+                    numbers.insert(100 * whose + 28);
+                }
             }
             Regroup::Refused { number, k, field: differs } => {
                 numbers.insert(number);
                 fields.insert(differs);
                 if number == 20 {
                     let (k, differs) = (k as usize, differs as usize);
-                    assert_eq!(part, field(pair.profile, &pair.second, k, differs));
+                    assert_eq!(part, field(pair.profile, Age::New, &pair.second, k, differs));
                     continue;
                 }
             }
         }
         assert_eq!(part, (0, 0));
     }
-    assert_eq!(under.len(), 2);
-    for [numbers, fields] in under.values() {
-        assert_eq!(*numbers, BTreeSet::from([0, 15, 16, 17, 18, 19, 20, 100, 200]));
+    assert_eq!(read.len(), 4);
+    for ((_, age), [numbers, fields]) in &read {
+        let withdrawn = (*age == Age::New).then_some(128).into_iter().chain([228]);
+        let all = [0, 15, 16, 17, 18, 19, 20, 100, 200].into_iter().chain(withdrawn);
+        assert_eq!(*numbers, all.collect());
         assert_eq!(*fields, (0..=17).collect());
     }
 }
 
 #[test]
-fn a_message_regroups_itself_by_the_rising_list() {
-    for (profile, index) in under_both(80) {
-        let sound = sound_message(profile, SEED + 3, index);
+fn row_32_of_an_archived_first_makes_field_7_differ() {
+    let (mut many, mut alone) = (0, 0);
+    for index in 0..4000 {
+        let pair = pair(SEED + 7, index);
+        let read = (pair.profile, pair.age);
+        let answer = regroup(pair.profile, pair.age, &pair.first, &pair.second, &pair.list);
+        let Regroup::Refused { number: 20, k, field: 7 } = answer else { continue };
+        let at = 7 + 2 * k as usize;
+        let named = u16::from_be_bytes([pair.list[at], pair.list[at + 1]]);
+        if text(read, &pair.first, named.into(), 7) == "NOTPROVIDED" {
+            many += 1;
+            alone += u32::from(k == 0);
+            assert_eq!(pair.age, Age::Archived);
+        }
+    }
+    assert!(many > 100 && many > alone, "{many}, {alone} of them at 0");
+}
+
+#[test]
+fn a_message_regroups_itself_by_the_rising_list_but_for_row_32() {
+    for ((profile, made), index) in in_all_four(80) {
+        let sound = sound_message(profile, made, SEED + 3, index);
+        let message = &sound.message;
         let ordinals: Vec<u16> = (0..sound.transfers.len() as u16).collect();
-        let answer = regroup(profile, &sound.message, &sound.message, &list(&ordinals));
-        assert_eq!(answer, Regroup::Accepted);
+        let as_new = verdict(profile, Age::New, message, &mut [0; 1024]);
+        for age in Age::BOTH {
+            let answer = regroup(profile, age, message, message, &list(&ordinals));
+            match (as_new, answer) {
+                (Verdict::Accepted { .. }, _) => assert_eq!(answer, Regroup::Accepted),
+                (Verdict::Refused { offset, .. }, Regroup::Message { whose, refusal }) => {
+                    assert_eq!(whose, if age == Age::New { 1 } else { 2 });
+                    assert_eq!((refusal.number, refusal.offset), (28, offset));
+                }
+                _ => panic!("{answer:?}"),
+            }
+        }
     }
 }
 
@@ -242,6 +310,7 @@ fn the_same_seed_gives_the_same_cases() {
     for index in 0..50 {
         assert_eq!(case(1, index).message, case(1, index).message);
         assert_eq!(case(1, index).profile, case(1, index).profile);
+        assert_eq!(case(1, index).age, case(1, index).age);
         assert_eq!(pair(1, index).list, pair(1, index).list);
     }
     assert_ne!(case(1, 0).message, case(2, 0).message);

@@ -4,8 +4,9 @@ mod common;
 use common::edits::{dated, moment};
 use common::*;
 use independent::values::{fault, Fault};
-use independent::{differing, field, regroup, verdict, Profile, Refusal, Regroup, Verdict};
+use independent::{differing, field, regroup, verdict, Age, Profile, Refusal, Regroup, Verdict};
 
+const NEW: Age = Age::New;
 const DAY: &str = "<Dt>2026-03-04</Dt>";
 
 fn at(text: &str, piece: &str) -> usize {
@@ -233,20 +234,23 @@ fn values_of_both_rows_are_tried_in_the_order_of_the_file() {
 #[test]
 fn the_tables_part_for_row_16_holds_56_too() {
     let (message, mut table) = (i1(), [7; 1024]);
-    assert_eq!(verdict(Profile::INSTANT, message.as_bytes(), &mut table), accepted(1, 2, 3510));
+    assert_eq!(
+        verdict(Profile::INSTANT, NEW, message.as_bytes(), &mut table),
+        accepted(1, 2, 3510)
+    );
     for first in [0, 16] {
         let (start, length) = (table[first + 9] as usize, table[first + 10] as usize);
         let wanted = "<SvcLvl><Cd>SEPA</Cd></SvcLvl><LclInstrm><Cd>INST</Cd></LclInstrm>";
         assert_eq!(&message[start..start + length], wanted);
     }
     let mut untouched = [7; 1024];
-    let answer = verdict(Profile::FIRST, message.as_bytes(), &mut untouched);
+    let answer = verdict(Profile::FIRST, NEW, message.as_bytes(), &mut untouched);
     assert!(matches!(answer, Verdict::Refused { number: 3, element: 16, .. }));
     assert_eq!(untouched, [7; 1024]);
 }
 
 fn text_of(profile: Profile, message: &str, payment: usize, number: usize) -> &str {
-    let (start, length) = field(profile, message.as_bytes(), payment, number);
+    let (start, length) = field(profile, NEW, message.as_bytes(), payment, number);
     &message[start..start + length]
 }
 
@@ -263,8 +267,8 @@ fn field_4_is_the_text_of_23_or_58_and_56_is_no_field() {
         }
     }
     for number in 1..=17 {
-        assert_eq!(field(Profile::FIRST, i1.as_bytes(), 0, number), (0, 0));
-        assert_eq!(field(Profile::INSTANT, M1.as_bytes(), 0, number), (0, 0));
+        assert_eq!(field(Profile::FIRST, NEW, i1.as_bytes(), 0, number), (0, 0));
+        assert_eq!(field(Profile::INSTANT, NEW, M1.as_bytes(), 0, number), (0, 0));
     }
 }
 
@@ -283,10 +287,10 @@ fn field_4_is_compared_by_its_text() {
         for other in &dates {
             let [first, second] = [one, other].map(|date| dated(&i1(), date));
             let (first, second) = (first.as_bytes(), second.as_bytes());
-            let answer = regroup(Profile::INSTANT, first, second, &list(&[0, 1]));
+            let answer = regroup(Profile::INSTANT, NEW, first, second, &list(&[0, 1]));
             let wanted = if one == other { Regroup::Accepted } else { differs };
             assert_eq!(answer, wanted, "{one} {other}");
-            let (start, length) = differing(Profile::INSTANT, first, second, &list(&[0, 1]));
+            let (start, length) = differing(Profile::INSTANT, NEW, first, second, &list(&[0, 1]));
             let text = std::str::from_utf8(&second[start..start + length]).unwrap();
             let wanted = if one == other { "" } else { other.split(['<', '>']).nth(2).unwrap() };
             assert_eq!(text, wanted);
@@ -298,7 +302,7 @@ fn field_4_is_compared_by_its_text() {
 fn a_regrouping_reads_both_messages_under_one_profile() {
     let (i1, i2) = (i1(), instant(&m2(), MOMENT));
     let answer = |profile, first: &str, second: &str, ordinals: &[u16]| {
-        regroup(profile, first.as_bytes(), second.as_bytes(), &list(ordinals))
+        regroup(profile, NEW, first.as_bytes(), second.as_bytes(), &list(ordinals))
     };
     let of = |whose, number, element, offset| Regroup::Message {
         whose,
@@ -328,7 +332,7 @@ fn an_own_instrument_equals_an_inherited_one() {
     let own = with(&own, second, &with(second, "<Amt>", &format!("{kind}<Amt>")));
     let own = instant(&m1(element(M1, "PmtInf"), &own), MOMENT);
     assert_eq!(judge_instant(&own), accepted(1, 2, 3510));
-    let answer = regroup(Profile::INSTANT, i1().as_bytes(), own.as_bytes(), &list(&[0, 1]));
+    let answer = regroup(Profile::INSTANT, NEW, i1().as_bytes(), own.as_bytes(), &list(&[0, 1]));
     assert_eq!(answer, Regroup::Accepted);
 }
 
@@ -344,6 +348,6 @@ fn usage_counts_and_sums_hold_under_the_instant_profile() {
     assert_eq!(judge_instant(&message), refused(12, 6, 147));
     let message = i1_with(">35.10<", ">35.11<");
     assert_eq!(judge_instant(&message), refused(13, 7, 167));
-    assert_eq!(verdict(Profile::INSTANT, i1().as_bytes(), &mut [0; 1023]), refused(14, 0, 0));
+    assert_eq!(verdict(Profile::INSTANT, NEW, i1().as_bytes(), &mut [0; 1023]), refused(14, 0, 0));
     assert_eq!(judge_instant([b' '; 32_769]), refused(1, 0, 32_768));
 }

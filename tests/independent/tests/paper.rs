@@ -3,16 +3,17 @@
 mod common;
 use common::*;
 use independent::values::{fault, Fault};
-use independent::{differing, field, regroup, verdict, Profile, Refusal, Regroup};
+use independent::{differing, field, regroup, verdict, Age, Profile, Refusal, Regroup};
 
 const FIRST: Profile = Profile::FIRST;
+const NEW: Age = Age::New;
 
 const EUR: &[u8] = b"EUR";
 
 #[test]
 fn m1_is_accepted_and_fills_its_rows_of_the_table_alone() {
     let mut table = vec![7; 1100];
-    assert_eq!(verdict(FIRST, M1.as_bytes(), &mut table), accepted(1, 2, 3510));
+    assert_eq!(verdict(FIRST, NEW, M1.as_bytes(), &mut table), accepted(1, 2, 3510));
     let text = |at: usize| &M1[table[at] as usize..][..table[at + 1] as usize];
     for (first, end_to_end, iban, name, euros, cents, payment) in [
         (0, "E1", "LU699871234567898765", "A Weis", 12, 50, payments_of_m1()[0]),
@@ -34,7 +35,7 @@ fn m1_is_accepted_and_fills_its_rows_of_the_table_alone() {
 #[test]
 fn an_absent_ultimate_debtor_is_0_0() {
     let mut table = [7; 1024];
-    assert_eq!(verdict(FIRST, m3().as_bytes(), &mut table), accepted(2, 2, 3510));
+    assert_eq!(verdict(FIRST, NEW, m3().as_bytes(), &mut table), accepted(2, 2, 3510));
     assert_eq!(&m3()[table[7] as usize..][..table[8] as usize], "Study 12");
     assert_eq!((table[16], table[23], table[24]), (1, 0, 0));
 }
@@ -43,7 +44,7 @@ fn an_absent_ultimate_debtor_is_0_0() {
 fn a_refusal_writes_nothing() {
     let mut table = [7; 1024];
     assert_eq!(
-        verdict(FIRST, m1(">35.10<", ">35.11<").as_bytes(), &mut table),
+        verdict(FIRST, NEW, m1(">35.10<", ">35.11<").as_bytes(), &mut table),
         refused(13, 7, 167)
     );
     assert!(table.iter().all(|number| *number == 7));
@@ -52,9 +53,9 @@ fn a_refusal_writes_nothing() {
 #[test]
 fn a_short_table_comes_before_all_else_and_the_size_before_the_form() {
     for short in [0, 1, 1023] {
-        assert_eq!(verdict(FIRST, b"", &mut vec![0; short]), refused(14, 0, 0));
-        assert_eq!(verdict(FIRST, &[b'x'; 40_000], &mut vec![0; short]), refused(14, 0, 0));
-        assert_eq!(verdict(FIRST, M1.as_bytes(), &mut vec![0; short]), refused(14, 0, 0));
+        assert_eq!(verdict(FIRST, NEW, b"", &mut vec![0; short]), refused(14, 0, 0));
+        assert_eq!(verdict(FIRST, NEW, &[b'x'; 40_000], &mut vec![0; short]), refused(14, 0, 0));
+        assert_eq!(verdict(FIRST, NEW, M1.as_bytes(), &mut vec![0; short]), refused(14, 0, 0));
     }
     assert_eq!(judge([b'x'; 32_769]), refused(1, 0, 32_768));
     assert_eq!(judge([b'x'; 32_768]), refused(2, 0, 0));
@@ -113,15 +114,15 @@ fn amounts_and_days_in_m1() {
 fn m2_and_m3() {
     let differs = |k, field| Regroup::Refused { number: 20, k, field };
     let (one, two, three) = (M1.as_bytes(), m2(), m3());
-    assert_eq!(regroup(FIRST, one, two.as_bytes(), &list(&[1, 0])), Regroup::Accepted);
-    assert_eq!(regroup(FIRST, one, two.as_bytes(), &list(&[0, 1])), differs(0, 10));
-    assert_eq!(regroup(FIRST, one, three.as_bytes(), &list(&[0, 1])), differs(1, 8));
+    assert_eq!(regroup(FIRST, NEW, one, two.as_bytes(), &list(&[1, 0])), Regroup::Accepted);
+    assert_eq!(regroup(FIRST, NEW, one, two.as_bytes(), &list(&[0, 1])), differs(0, 10));
+    assert_eq!(regroup(FIRST, NEW, one, three.as_bytes(), &list(&[0, 1])), differs(1, 8));
 
-    let (start, length) = differing(FIRST, one, two.as_bytes(), &list(&[0, 1]));
+    let (start, length) = differing(FIRST, NEW, one, two.as_bytes(), &list(&[0, 1]));
     assert_eq!(&two[start..start + length], "E2");
-    assert_eq!(differing(FIRST, one, three.as_bytes(), &list(&[0, 1])), (0, 0));
-    assert_eq!(differing(FIRST, one, two.as_bytes(), &list(&[1, 0])), (0, 0));
-    let (start, length) = differing(FIRST, three.as_bytes(), one, &list(&[0, 1]));
+    assert_eq!(differing(FIRST, NEW, one, three.as_bytes(), &list(&[0, 1])), (0, 0));
+    assert_eq!(differing(FIRST, NEW, one, two.as_bytes(), &list(&[1, 0])), (0, 0));
+    let (start, length) = differing(FIRST, NEW, three.as_bytes(), one, &list(&[0, 1]));
     assert_eq!(&M1[start..start + length], "Study 12");
 }
 
@@ -138,26 +139,26 @@ fn the_order_of_the_regrouping_refusals() {
     assert_eq!(judge(&single), accepted(1, 1, 1250));
     let long = [b' '; 32_769];
 
-    assert_eq!(regroup(FIRST, b"", b"", b""), message(1, 2, 0, 0));
-    assert_eq!(regroup(FIRST, one, &long, b""), message(2, 1, 0, 32_768));
-    assert_eq!(regroup(FIRST, &long, b"", b""), message(1, 1, 0, 32_768));
-    assert_eq!(regroup(FIRST, one, single.as_bytes(), b""), refused(15, 0));
-    assert_eq!(regroup(FIRST, one, one, b""), refused(16, 0));
-    assert_eq!(regroup(FIRST, one, one, &list(&[0])), refused(17, 0));
-    assert_eq!(regroup(FIRST, one, one, &list(&[0, 1, 2])), refused(17, 0));
-    assert_eq!(regroup(FIRST, one, one, &list(&[2, 2])), refused(18, 0));
-    assert_eq!(regroup(FIRST, one, one, &list(&[0, 2])), refused(18, 1));
-    assert_eq!(regroup(FIRST, one, one, &list(&[0, 0])), refused(19, 1));
+    assert_eq!(regroup(FIRST, NEW, b"", b"", b""), message(1, 2, 0, 0));
+    assert_eq!(regroup(FIRST, NEW, one, &long, b""), message(2, 1, 0, 32_768));
+    assert_eq!(regroup(FIRST, NEW, &long, b"", b""), message(1, 1, 0, 32_768));
+    assert_eq!(regroup(FIRST, NEW, one, single.as_bytes(), b""), refused(15, 0));
+    assert_eq!(regroup(FIRST, NEW, one, one, b""), refused(16, 0));
+    assert_eq!(regroup(FIRST, NEW, one, one, &list(&[0])), refused(17, 0));
+    assert_eq!(regroup(FIRST, NEW, one, one, &list(&[0, 1, 2])), refused(17, 0));
+    assert_eq!(regroup(FIRST, NEW, one, one, &list(&[2, 2])), refused(18, 0));
+    assert_eq!(regroup(FIRST, NEW, one, one, &list(&[0, 2])), refused(18, 1));
+    assert_eq!(regroup(FIRST, NEW, one, one, &list(&[0, 0])), refused(19, 1));
     let first_differs = Regroup::Refused { number: 20, k: 0, field: 10 };
-    assert_eq!(regroup(FIRST, one, one, &list(&[1, 2])), first_differs);
-    assert_eq!(regroup(FIRST, one, one, &list(&[1, 1])), first_differs);
-    assert_eq!(regroup(FIRST, one, one, &list(&[0, 1])), Regroup::Accepted);
+    assert_eq!(regroup(FIRST, NEW, one, one, &list(&[1, 2])), first_differs);
+    assert_eq!(regroup(FIRST, NEW, one, one, &list(&[1, 1])), first_differs);
+    assert_eq!(regroup(FIRST, NEW, one, one, &list(&[0, 1])), Regroup::Accepted);
 }
 
 #[test]
 fn fields_of_m1() {
     let text = |payment, number| {
-        let (start, length) = field(FIRST, M1.as_bytes(), payment, number);
+        let (start, length) = field(FIRST, NEW, M1.as_bytes(), payment, number);
         &M1[start..start + length]
     };
     let expected = [
@@ -183,11 +184,11 @@ fn fields_of_m1() {
         assert_eq!(text(0, index + 1), *expected, "field {}", index + 1);
     }
     for number in [0, 18, (1 << 32) + 10, usize::MAX] {
-        assert_eq!(field(FIRST, M1.as_bytes(), 0, number), (0, 0));
+        assert_eq!(field(FIRST, NEW, M1.as_bytes(), 0, number), (0, 0));
     }
     for payment in [2, 1 << 32, usize::MAX] {
-        assert_eq!(field(FIRST, M1.as_bytes(), payment, 10), (0, 0));
+        assert_eq!(field(FIRST, NEW, M1.as_bytes(), payment, 10), (0, 0));
     }
-    assert_eq!(field(FIRST, m1(">M1<", ">M_<").as_bytes(), 0, 10), (0, 0));
-    assert_eq!(field(FIRST, M1.as_bytes(), 0, 1), (0, 0));
+    assert_eq!(field(FIRST, NEW, m1(">M1<", ">M_<").as_bytes(), 0, 10), (0, 0));
+    assert_eq!(field(FIRST, NEW, M1.as_bytes(), 0, 1), (0, 0));
 }

@@ -4,7 +4,7 @@ mod common;
 use common::*;
 use examples::*;
 use independent::values::{fault, remainder, Fault};
-use independent::{regroup, Profile};
+use independent::{regroup, Age, Profile};
 use std::collections::BTreeSet;
 
 const ACCOUNTS: [&str; 3] =
@@ -137,11 +137,30 @@ fn annex_2_has_324_codes_none_twice() {
 
 #[test]
 fn whole_messages_and_snippets() {
+    for Example { name, message, wanted } in all_messages() {
+        let found = |age| Profile::BOTH.map(|profile| judge_as(profile, age, &message));
+        assert_eq!(found(Age::New), wanted.new, "{name}");
+        if let Some(archived) = wanted.archived {
+            assert_eq!(found(Age::Archived), archived, "{name}, archived");
+        }
+    }
+}
+
+fn all_messages() -> impl Iterator<Item = Example> {
     let whole = [example_1_4(), example_6_1(), example_6_2(), instant_messages()];
     let snippets = [accepted_snippets(), refused_snippets(), snippets_in_i1()];
-    for Example { name, message, wanted } in whole.into_iter().chain(snippets).flatten() {
-        let found = Profile::BOTH.map(|profile| judge_under(profile, &message));
-        assert_eq!(found, wanted, "{name}");
+    let withdrawn = [withdrawn_messages(), vec![withdrawn_snippet()]];
+    whole.into_iter().chain(snippets).chain(withdrawn).flatten()
+}
+
+#[test]
+fn what_holds_row_32_is_read_both_ways() {
+    let holds = |message: &str| message.contains("<Id>NOTPROVIDED</Id>");
+    for Example { name, message, wanted } in all_messages() {
+        assert!(wanted.archived.is_some() || !holds(&message), "{name}");
+    }
+    for Regrouping { name, first, wanted, .. } in all_regroupings() {
+        assert!(wanted.archived.is_some() || !holds(&first), "{name}");
     }
 }
 
@@ -149,7 +168,10 @@ fn whole_messages_and_snippets() {
 fn examples_and_m1_regrouped() {
     for Regrouping { name, first, second, list, wanted } in all_regroupings() {
         let (first, second) = (first.as_bytes(), second.as_bytes());
-        let found = Profile::BOTH.map(|profile| regroup(profile, first, second, &list));
-        assert_eq!(found, wanted, "{name}");
+        let found = |age| Profile::BOTH.map(|profile| regroup(profile, age, first, second, &list));
+        assert_eq!(found(Age::New), wanted.new, "{name}");
+        if let Some(archived) = wanted.archived {
+            assert_eq!(found(Age::Archived), archived, "{name}, archived");
+        }
     }
 }

@@ -1,5 +1,6 @@
 //! Damage to messages: by order, tag, value, usage, counts, bytes and size.
 
+use super::agent;
 use super::draft::Draft;
 use super::instant;
 use super::random::Random;
@@ -10,8 +11,18 @@ use crate::LONGEST_MESSAGE;
 
 pub type Damage = fn(&mut Draft, &mut Random);
 
-pub const DAMAGES: [Damage; 8] =
-    [order, tags, values, usage, counts, limits, instant::instrument, instant::date];
+pub const DAMAGES: [Damage; 10] = [
+    order,
+    tags,
+    values,
+    usage,
+    counts,
+    limits,
+    instant::instrument,
+    instant::date,
+    agent::agent,
+    agent::agent,
+];
 
 /// Names of the form and not: known, unknown, of 32 and 33 bytes, InstdAmt.
 fn any_name(random: &mut Random) -> String {

@@ -2,7 +2,7 @@
 
 use super::random::Random;
 use crate::values::{remainder, COUNTRIES};
-use crate::Profile;
+use crate::{Age, Profile};
 
 /// Row 23 or 58.
 #[derive(Clone, Debug, PartialEq, Eq)]
@@ -26,7 +26,7 @@ pub struct DebitSide {
     pub date: Execution,
     pub debtor: String,
     pub account: String,
-    /// The BIC, or none for NOTPROVIDED.
+    /// The BIC, or none for NOTPROVIDED, which an archived message alone may say.
     pub agent: Option<String>,
 }
 
@@ -194,13 +194,13 @@ fn optional<T>(
     random.percent(plenty.chance).then(|| value(random))
 }
 
-pub fn debit_side(profile: Profile, plenty: Plenty, random: &mut Random) -> DebitSide {
+pub fn debit_side(profile: Profile, age: Age, plenty: Plenty, random: &mut Random) -> DebitSide {
     DebitSide {
         batch: random.percent(70),
         date: execution(profile, random),
         debtor: text(70, plenty, random),
         account: iban(random),
-        agent: random.percent(70).then(|| bic(random)),
+        agent: (age == Age::New || random.percent(60)).then(|| bic(random)),
     }
 }
 
@@ -230,12 +230,13 @@ pub fn remittance(plenty: Plenty, random: &mut Random) -> Remittance {
 /// which some may be alike.
 pub fn transfers(
     profile: Profile,
+    age: Age,
     count: usize,
     plenty: Plenty,
     random: &mut Random,
 ) -> Vec<Transfer> {
     let some = random.between(1, 4);
-    let sides: Vec<_> = (0..some).map(|_| debit_side(profile, plenty, random)).collect();
+    let sides: Vec<_> = (0..some).map(|_| debit_side(profile, age, plenty, random)).collect();
     let kinds: Vec<_> = (0..some).map(|_| kind(profile, plenty, random)).collect();
     let debtors: Vec<_> = (0..some).map(|_| ultimate_party(plenty, random)).collect();
     let mut transfers: Vec<Transfer> = Vec::new();
@@ -294,7 +295,7 @@ impl Transfer {
             4 => self.change_date(random),
             5 => self.side.debtor = text(70, plenty, random),
             6 => self.side.account = iban(random),
-            7 => self.side.agent = optional(plenty, random, bic),
+            7 => self.side.agent = Some(bic(random)),
             8 => self.ultimate_debtor = ultimate_party(plenty, random),
             9 => self.instruction = optional(plenty, random, |random| id(plenty, random)),
             10 => self.end_to_end = id(plenty, random),

@@ -5,10 +5,11 @@ use super::*;
 use independent::field;
 use std::ops::RangeInclusive;
 
-/// Asks for each of these fields of a payment, the message read under this profile.
+/// Asks for each of these fields of a payment, the message read under this profile and as that age.
 pub struct Asked {
     pub name: String,
     pub profile: Profile,
+    pub age: Age,
     pub message: String,
     pub payment: usize,
     pub fields: RangeInclusive<usize>,
@@ -19,7 +20,7 @@ impl Asked {
     pub fn texts(&self) -> impl Iterator<Item = (usize, &str)> {
         self.fields.clone().map(|number| {
             let (start, length) =
-                field(self.profile, self.message.as_bytes(), self.payment, number);
+                field(self.profile, self.age, self.message.as_bytes(), self.payment, number);
             (number, &self.message[start..start + length])
         })
     }
@@ -69,7 +70,7 @@ const OWN: &Texts = &[
     (4, "2026-12-31"),
     (5, "Clinic"),
     (6, "FI2112345600000785"),
-    (7, "NOTPROVIDED"),
+    (7, "DDDDLULLXXX"),
     (8, "Study 56"),
     (9, "I3"),
     (10, "E3"),
@@ -81,7 +82,7 @@ const OWN: &Texts = &[
     (16, "9"),
 ];
 
-/// These fields of a payment of the message, which must have these texts and no others.
+/// These fields of a payment of the new message, which must have these texts and no others.
 fn asked(
     name: &str,
     message: &str,
@@ -89,18 +90,18 @@ fn asked(
     fields: RangeInclusive<usize>,
     wanted: &[&Texts],
 ) -> Asked {
-    asked_under(Profile::FIRST, (name, message), payment, fields, wanted)
+    asked_as((Profile::FIRST, Age::New), (name, message), payment, fields, wanted)
 }
 
-fn asked_under(
-    profile: Profile,
+fn asked_as(
+    (profile, age): (Profile, Age),
     (name, message): (&str, &str),
     payment: usize,
     fields: RangeInclusive<usize>,
     wanted: &[&Texts],
 ) -> Asked {
-    let (name, message) = (name.to_string(), message.to_string());
-    let asked = Asked { name, profile, message, payment, fields };
+    let (name, message) = (named(age, name), message.to_string());
+    let asked = Asked { name, profile, age, message, payment, fields };
     let found: Vec<(usize, &str)> = asked.texts().filter(|(_, text)| !text.is_empty()).collect();
     assert_eq!(found, wanted.concat(), "{}, payment {payment}", asked.name);
     asked
@@ -109,7 +110,7 @@ fn asked_under(
 pub fn all() -> Vec<Asked> {
     let m1 = |payment, own| asked("M1", M1, payment, EVERY_NUMBER, &[BLOCK, own]);
     let mut all = vec![m1(0, FIRST), m1(1, SECOND)];
-    all.extend(of_three_blocks());
+    all.extend(of_three_blocks(Age::New));
     all.extend(indented());
     all.extend([longest_texts(), last_of_64()]);
     all.extend(unknown());
@@ -117,14 +118,23 @@ pub fn all() -> Vec<Asked> {
     all.extend(instant_messages());
     all.extend(refused_instant_messages());
     all.extend(of_the_other_profile());
+    all.extend(refused_without_bic());
+    all.extend(of_three_blocks(Age::Archived));
+    all.extend(archived_messages());
+    all.extend(refused_archived_messages());
     all
 }
 
-/// M1's block; one whose payment has every field; one whose payments do not inherit.
-fn of_three_blocks() -> Vec<Asked> {
+/// M1's block; one whose payment has every field; one whose payments do not inherit, and whose
+/// debtor's agent is not provided in an archived message.
+fn of_three_blocks(age: Age) -> Vec<Asked> {
     let kind = element(M1, "PmtTpInf");
     let alone = |id| with(&block_of_first(), ">B1<", id);
-    let own = moved(&moved(&filled(&alone(">B3<"), OWN), "PmtTpInf"), "UltmtDbtr");
+    let mut texts = OWN.to_vec();
+    if age == Age::Archived {
+        texts[6].1 = "NOTPROVIDED";
+    }
+    let own = moved(&moved(&filled(&alone(">B3<"), &texts), "PmtTpInf"), "UltmtDbtr");
     let own = remitted(&own, &reference(Some("ISO"), "RF18 5390"));
     let bare = with(payments_of_m1()[1], "<Amt>", &format!("{kind}<Amt>"));
     let bare = with(&with(&bare, ">E2<", ">E4<"), ">22.60<", ">13<");
@@ -132,13 +142,15 @@ fn of_three_blocks() -> Vec<Asked> {
     let own = with(&own, "</PmtInf>", &format!("{bare}\n</PmtInf>"));
     let block = element(M1, "PmtInf").to_string();
     let message = message(&[block, filled(&alone(">B2<"), EVERY), own]);
-    let of =
-        |payment, wanted: &[&Texts]| asked("three blocks", &message, payment, EVERY_NUMBER, wanted);
+    let of = |payment, wanted: &[&Texts]| {
+        let named = ("three blocks", message.as_str());
+        asked_as((Profile::FIRST, age), named, payment, EVERY_NUMBER, wanted)
+    };
     let said = [(10, "E4"), (11, "13"), SECOND[2], SECOND[3], (17, "+++01234012401313+++")];
     vec![
         of(2, &[EVERY]),
-        of(3, &[OWN, &[(17, "RF18 5390")]]),
-        of(4, &[&OWN[..1], &OWN[3..7], &said]),
+        of(3, &[&texts, &[(17, "RF18 5390")]]),
+        of(4, &[&texts[..1], &texts[3..7], &said]),
     ]
 }
 
@@ -234,7 +246,7 @@ fn asked_instant(
     fields: RangeInclusive<usize>,
     wanted: &[&Texts],
 ) -> Asked {
-    asked_under(Profile::INSTANT, (name, message), payment, fields, wanted)
+    asked_as((Profile::INSTANT, Age::New), (name, message), payment, fields, wanted)
 }
 
 /// I1; every field; a block that says the day behind one that says the time; own row 16.
@@ -285,6 +297,73 @@ fn refused_instant_messages() -> Vec<Asked> {
         of("a byte behind the zone", &i1_with(MOMENT, &format!("{MOMENT}0")), 6),
         of("another instrument", &i1_with(">INST<", ">TRF<"), 8),
         of("no zone", &i1_with("+01:00", ""), 8),
+    ]
+}
+
+/// New messages with row 32: not even the other fields are handed back.
+fn refused_without_bic() -> [Asked; 2] {
+    let [of_m1, of_i1] = [M1, &i1()].map(not_provided);
+    assert!(matches!(judge(&of_m1), Verdict::Refused { number: 28, .. }));
+    assert!(matches!(judge_instant(&of_i1), Verdict::Refused { number: 28, .. }));
+    [
+        asked("M1 without BIC", &of_m1, 0, 5..=11, &[]),
+        asked_instant("I1 without BIC", &of_i1, 1, 4..=8, &[]),
+    ]
+}
+
+/// M1 and I1 as they are, and without a BIC.
+fn archived_messages() -> Vec<Asked> {
+    let (i1, no_agent) = (i1(), &[(7, "NOTPROVIDED")]);
+    let [of_m1, of_i1] = [not_provided(M1), not_provided(&i1)];
+    let first = |name, message: &str, payment, wanted: &[&Texts]| {
+        let read = (Profile::FIRST, Age::Archived);
+        asked_as(read, (name, message), payment, EVERY_NUMBER, wanted)
+    };
+    let instant = |name, message: &str, payment, wanted: &[&Texts]| {
+        let read = (Profile::INSTANT, Age::Archived);
+        let wanted = [&[&[(4, MOMENT)][..]], wanted].concat();
+        asked_as(read, (name, message), payment, EVERY_NUMBER, &wanted)
+    };
+    let read = (Profile::FIRST, Age::Archived);
+    vec![
+        first("M1", M1, 0, &[BLOCK, FIRST]),
+        first("M1 without BIC", &of_m1, 0, &[&BLOCK[..3], no_agent, &BLOCK[4..], FIRST]),
+        first("M1 without BIC", &of_m1, 1, &[&BLOCK[..3], no_agent, &BLOCK[4..], SECOND]),
+        asked_as(read, ("M1 without BIC", &of_m1), 2, 7..=7, &[]),
+        instant("I1", &i1, 1, &[&BLOCK[1..], SECOND]),
+        instant("I1 without BIC", &of_i1, 0, &[&BLOCK[1..3], no_agent, &BLOCK[4..], FIRST]),
+        instant("I1 without BIC", &of_i1, 1, &[&BLOCK[1..3], no_agent, &BLOCK[4..], SECOND]),
+    ]
+}
+
+/// What is refused though it is archived.
+fn refused_archived_messages() -> Vec<Asked> {
+    let one = message(&[block_of_first()]);
+    let other = |text: &str| with_agent(&one, &format!("<Othr>{text}</Othr>"));
+    let no_agent = not_provided(&one);
+    let of = |profile, name, message: &str, refusal| {
+        let judged = judge_as(profile, Age::Archived, message);
+        let Verdict::Refused { number, .. } = judged else { panic!("{name}: accepted") };
+        assert_eq!(number, refusal, "{name}");
+        asked_as((profile, Age::Archived), (name, message), 0, 7..=7, &[])
+    };
+    let (first, instant) = (Profile::FIRST, Profile::INSTANT);
+    vec![
+        of(first, "Othr twice", &no_agent.replace("<Othr>", &format!("{NOT_PROVIDED}<Othr>")), 3),
+        of(first, "an empty Othr", &other(""), 4),
+        of(first, "an empty id", &other("<Id></Id>"), 6),
+        of(first, "a wrong character in the id", &other("<Id>NOT_PROVIDED</Id>"), 7),
+        of(first, "a BIC as id", &other("<Id>AAAALULL</Id>"), 8),
+        of(first, "NOTPROVIDED as BIC", &one.replace("AAAALULL", "NOTPROVIDED"), 8),
+        of(first, "no BIC and a wrong count", &with(&no_agent, "<NbOfTxs>1", "<NbOfTxs>2"), 12),
+        of(first, "I1 under the first profile", &not_provided(&i1()), 3),
+        of(instant, "M1 as instant", &not_provided(M1), 4),
+        of(
+            instant,
+            "a BIC as instant id",
+            &i1_with("<BICFI>AAAALULL</BICFI>", "<Othr><Id>AAAALULL</Id></Othr>"),
+            8,
+        ),
     ]
 }
 

@@ -5,18 +5,38 @@
 use super::*;
 use independent::{Refusal, Regroup};
 
-/// A message, and its verdicts under the first profile and under the instant one.
+/// The answers under the first profile and under the instant one, read as new; and read as archived,
+/// where that is tried too.
+#[derive(Clone)]
+pub struct Wanted<A> {
+    pub new: [A; 2],
+    pub archived: Option<[A; 2]>,
+}
+
+impl<A> Wanted<A> {
+    fn as_new(new: [A; 2]) -> Self {
+        Wanted { new, archived: None }
+    }
+}
+
+/// A message and its verdicts.
 pub struct Example {
     pub name: String,
     pub message: String,
-    pub wanted: [Verdict; 2],
+    pub wanted: Wanted<Verdict>,
 }
 
 impl Example {
     /// Of a message without row 56, by its verdict under the first profile.
     fn new(name: String, message: String, wanted: Verdict) -> Self {
-        let wanted = [wanted, without_instrument(&message, wanted)];
+        let wanted = Wanted::as_new([wanted, without_instrument(&message, wanted)]);
         Example { name, message, wanted }
+    }
+
+    /// The same of one that is read as new and as archived.
+    fn either_way(name: String, message: String, wanted: [Verdict; 2]) -> Self {
+        let [new, archived] = wanted.map(|wanted| [wanted, without_instrument(&message, wanted)]);
+        Example { name, message, wanted: Wanted { new, archived: Some(archived) } }
     }
 }
 
@@ -32,24 +52,37 @@ fn without_instrument(message: &str, wanted: Verdict) -> Verdict {
     }
 }
 
-/// Two messages and a list, and the answers under the first profile and under the instant one.
+/// Two messages and a list, and the answers; archived is the first message's.
 #[derive(Clone)]
 pub struct Regrouping {
     pub name: String,
     pub first: String,
     pub second: String,
     pub list: Vec<u8>,
-    pub wanted: [Regroup; 2],
+    pub wanted: Wanted<Regroup>,
+}
+
+impl Regrouping {
+    /// The same, also with the first message archived.
+    fn archived(mut self, answers: [Regroup; 2]) -> Self {
+        self.wanted.archived = Some(answers);
+        self
+    }
 }
 
 /// Messages without row 56: under the instant profile the first one is refused.
 fn regrouping(name: &str, [first, second]: [&str; 2], list: &[u8], wanted: Regroup) -> Regrouping {
     let [name, first, second] = [name, first, second].map(str::to_string);
-    let instant = match without_instrument(&first, accepted(1, 2, 0)) {
+    let wanted = Wanted::as_new([wanted, no_instrument(&first)]);
+    Regrouping { name, first, second, list: list.to_vec(), wanted }
+}
+
+/// The answer under the instant profile to a first message that has row 16 without row 56.
+fn no_instrument(first: &str) -> Regroup {
+    match without_instrument(first, accepted(1, 2, 0)) {
         Verdict::Refused { number, element, offset } => of_message(1, (number, element, offset)),
-        Verdict::Accepted { .. } => panic!("{name}: no row 16"),
-    };
-    Regrouping { name, first, second, list: list.to_vec(), wanted: [wanted, instant] }
+        Verdict::Accepted { .. } => panic!("no row 16"),
+    }
 }
 
 fn of_message(whose: u32, (number, element, offset): (u32, u32, usize)) -> Regroup {
@@ -212,7 +245,7 @@ fn last(examples: Vec<Example>) -> String {
 }
 
 pub fn all_regroupings() -> Vec<Regrouping> {
-    [regroupings(), regroupings_of_m1(), regroupings_of_i1()].concat()
+    [regroupings(), regroupings_of_m1(), regroupings_of_i1(), regroupings_of_archived()].concat()
 }
 
 /// The repaired 6.1 regrouped to the repaired 6.2.
@@ -244,7 +277,8 @@ fn regroupings_of_m1() -> Vec<Regrouping> {
         regrouping(name, [first, second], list, wanted)
     };
     vec![
-        regrouping("M1 to M2 by 1, 0", M1, &m2, &list(&[1, 0]), Regroup::Accepted),
+        regrouping("M1 to M2 by 1, 0", M1, &m2, &list(&[1, 0]), Regroup::Accepted)
+            .archived([Regroup::Accepted, no_instrument(M1)]),
         regrouping("M1 to M2 by 0, 1", M1, &m2, &list(&[0, 1]), refused(20, 0, 10)),
         regrouping("M1 to M3 by 0, 1", M1, &m3, &list(&[0, 1]), refused(20, 1, 8)),
         regrouping("M1 to M3 by 1, 2", M1, &m3, &list(&[1, 2]), refused(20, 0, 10)),
@@ -292,7 +326,7 @@ pub fn instant_messages() -> Vec<Example> {
             None => sound,
             Some((number, row, at)) => refused(number, row, message.find(at).expect("the place")),
         };
-        Example { name: name.to_string(), message, wanted: [first, instant] }
+        Example { name: name.to_string(), message, wanted: Wanted::as_new([first, instant]) }
     };
     let i1_but = |name: &str, old: &str, new: &str, instant| {
         example(name, i1_with(old, new), (instrument, "<LclInstrm>"), instant)
@@ -326,6 +360,82 @@ pub fn instant_messages() -> Vec<Example> {
     ]
 }
 
+/// M1 and I1 with row 32 under the debtor's agent, and faults before it, in it and behind it.
+pub fn withdrawn_messages() -> Vec<Example> {
+    let sound = accepted(1, 2, 3510);
+    let withdrawn = Some((28, 32, "<Othr>"));
+    let example = |name: &str, message: String, wanted: [Option<(u32, u32, &str)>; 2]| {
+        let wanted = wanted.map(|refusal| match refusal {
+            None => sound,
+            Some((number, row, at)) => refused(number, row, message.find(at).expect("the place")),
+        });
+        let name = name.to_string();
+        let Some(instrument) = message.find("<LclInstrm>") else {
+            return Example::either_way(name, message, wanted);
+        };
+        let [new, archived] = wanted.map(|wanted| [refused(3, 16, instrument), wanted]);
+        Example { name, message, wanted: Wanted { new, archived: Some(archived) } }
+    };
+    let i1_but = |name: &str, old: &str, new: &str, archived| {
+        let message = with(&not_provided(&i1()), old, new);
+        example(&format!("I1 without BIC, {name}"), message, [withdrawn, archived])
+    };
+    let before = with(&not_provided(&i1()), "Institute", "");
+    let no_contents = with_agent(&i1(), "<Othr></Othr>");
+    let both = i1_with("</BICFI>", &format!("</BICFI>{NOT_PROVIDED}"));
+    let agent = format!("<CdtrAgt><FinInstnId>{NOT_PROVIDED}</FinInstnId></CdtrAgt><Cdtr>");
+    let creditors = i1_with("<Cdtr>", &agent);
+    vec![
+        example("M1 without BIC", not_provided(M1), [withdrawn, None]),
+        example("I1 without BIC", not_provided(&i1()), [withdrawn, None]),
+        i1_but("an empty id", "NOTPROVIDED", "", Some((6, 33, "<Id></Id>"))),
+        i1_but("a wrong id", "NOTPROVIDED", "AAAALULL", Some((8, 33, "<Id>AAAALULL"))),
+        i1_but("a wrong name behind it", "Study 12", "Study_12", Some((7, 35, "_12"))),
+        i1_but("a wrong count", "<NbOfTxs>2", "<NbOfTxs>3", Some((12, 6, "<NbOfTxs>3"))),
+        example("I1 without BIC, no name before it", before, [Some((6, 25, "<Nm></Nm>")); 2]),
+        example("I1 with an empty Othr", no_contents, [Some((4, 33, "</Othr>")); 2]),
+        example("I1 with BIC and Othr", both, [Some((3, 30, "<Othr>")); 2]),
+        example("I1 with a creditor's Othr", creditors, [Some((3, 30, "<Othr>")); 2]),
+    ]
+}
+
+/// Of M1 and I1, with row 32 in the first message, in the second and in both.
+fn regroupings_of_archived() -> Vec<Regrouping> {
+    let (m1, i1) = (not_provided(M1), i1());
+    let other = not_provided(&i1);
+    let of =
+        |whose, message: &str| of_message(whose, (28, 32, message.find("<Othr>").expect("row 32")));
+    let differs = Regroup::Refused { number: 20, k: 0, field: 7 };
+    let regrouping = |name: &str, [first, second]: [&str; 2], new, archived| {
+        let [name, first, second] = [name, first, second].map(str::to_string);
+        let wanted = Wanted { new, archived: Some(archived) };
+        Regrouping { name, first, second, list: list(&[0, 1]), wanted }
+    };
+    let (missing, instrument) =
+        (no_instrument(&m1), of_message(1, (3, 16, i1.find("<LclInstrm>").expect("row 56"))));
+    vec![
+        regrouping(
+            "M1 without BIC to itself",
+            [&m1, &m1],
+            [of(1, &m1), missing],
+            [of(2, &m1), missing],
+        ),
+        regrouping("M1 without BIC to M1", [&m1, M1], [of(1, &m1), missing], [differs, missing]),
+        regrouping(
+            "I1 without BIC to I1",
+            [&other, &i1],
+            [instrument, of(1, &other)],
+            [instrument, differs],
+        ),
+        regrouping(
+            "I1 to I1 without BIC",
+            [&i1, &other],
+            [instrument, of(2, &other)],
+            [instrument, of(2, &other)],
+        ),
+    ]
+}
+
 fn element_of_i1(name: &str) -> String {
     element(&i1(), name).to_string()
 }
@@ -339,10 +449,11 @@ fn regroupings_of_i1() -> Vec<Regrouping> {
     let differs = |field| Regroup::Refused { number: 20, k: 0, field };
     let regrouping = |name: &str, first: &str, second: &str, ordinals: &[u16], wanted| {
         let [name, first, second] = [name, first, second].map(str::to_string);
-        Regrouping { name, first, second, list: list(ordinals), wanted }
+        Regrouping { name, first, second, list: list(ordinals), wanted: Wanted::as_new(wanted) }
     };
     vec![
-        regrouping("I1 to I2 by 1, 0", &i1, &i2, &[1, 0], [instrument(1), Regroup::Accepted]),
+        regrouping("I1 to I2 by 1, 0", &i1, &i2, &[1, 0], [instrument(1), Regroup::Accepted])
+            .archived([instrument(1), Regroup::Accepted]),
         regrouping("I1 to I2 by 0, 1", &i1, &i2, &[0, 1], [instrument(1), differs(10)]),
         regrouping(
             "I1 with Z to I1 with +00:00",
@@ -367,17 +478,38 @@ pub fn snippets_in_i1() -> Vec<Example> {
     .into_iter()
     .map(|(lines, message)| {
         let first = refused(3, 16, message.find("<LclInstrm>").expect("row 56"));
-        Example { name: format!("{lines} in I1"), message, wanted: [first, accepted(1, 2, 3510)] }
+        let wanted = Wanted::as_new([first, accepted(1, 2, 3510)]);
+        Example { name: format!("{lines} in I1"), message, wanted }
     })
+    .chain([no_agent_in_i1()])
     .collect()
+}
+
+/// Withdrawn since it was printed.
+fn no_agent_in_i1() -> Example {
+    let message = i1_with(&element_of_i1("DbtrAgt"), NO_AGENT);
+    let first = refused(3, 16, message.find("<LclInstrm>").expect("row 56"));
+    let withdrawn = refused(28, 32, message.find("<Othr>").expect("row 32"));
+    let wanted = Wanted { new: [first, withdrawn], archived: Some([first, accepted(1, 2, 3510)]) };
+    Example { name: "001:1923-1929 in I1".to_string(), message, wanted }
+}
+
+/// The one snippet that holds row 32: accepted as archived alone.
+pub fn withdrawn_snippet() -> Example {
+    let message = instead_of("DbtrAgt", NO_AGENT);
+    let withdrawn = refused(28, 32, message.find("<Othr>").expect("row 32"));
+    let wanted = [withdrawn, accepted(1, 2, 3510)];
+    Example::either_way("001:1923-1929 in M1".to_string(), message, wanted)
 }
 
 /// 001:1749-1751.
 const DATE: &str = " <ReqdExctnDt>\n <Dt>2021-05-31</Dt>\n </ReqdExctnDt>";
 
+/// 001:1923-1929.
+const NO_AGENT: &str = "<DbtrAgt>\n  <FinInstnId>\n    <Othr>\n      <Id>NOTPROVIDED</Id>\n    </Othr>\n  </FinInstnId>\n</DbtrAgt>";
+
 pub fn accepted_snippets() -> Vec<Example> {
     let agent = "<DbtrAgt>\n\n\n    <FinInstnId>\n      <BICFI>AAAALULLXXX</BICFI>\n    </FinInstnId>\n  </DbtrAgt>";
-    let no_agent = "<DbtrAgt>\n  <FinInstnId>\n    <Othr>\n      <Id>NOTPROVIDED</Id>\n    </Othr>\n  </FinInstnId>\n</DbtrAgt>";
     let reference = "<CdtrRefInf>\n <Tp>\n <CdOrPrtry>\n <Cd>SCOR</Cd>\n </CdOrPrtry>\n </Tp>\n <Ref>+++01234012401313+++</Ref>\n</CdtrRefInf>";
     [
         ("1346", instead_of("MsgId", "<MsgId>ABC/060928/CCT001</MsgId>")),
@@ -395,7 +527,6 @@ pub fn accepted_snippets() -> Vec<Example> {
             ),
         ),
         ("1908-1915", instead_of("DbtrAgt", agent)),
-        ("1923-1929", instead_of("DbtrAgt", no_agent)),
         ("2062", before("\n<CdtTrfTxInf>", "<ChrgBr>SLEV</ChrgBr>")),
         ("2106", before("<EndToEndId>", "<InstrId>1234567890</InstrId>")),
         ("2124", instead_of("EndToEndId", "<EndToEndId>ABC/4562/2010-09-25</EndToEndId>")),

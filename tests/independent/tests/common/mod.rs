@@ -7,7 +7,7 @@ pub mod examples;
 pub mod pairs;
 pub mod written;
 
-use independent::{verdict, Profile, Verdict};
+use independent::{verdict, Age, Profile, Verdict};
 
 pub const ROOT: &str = r#"<Document xmlns="urn:iso:std:iso:20022:tech:xsd:pain.001.001.09">"#;
 
@@ -103,17 +103,36 @@ pub fn accepted(blocks: u32, payments: u32, cents: u64) -> Verdict {
     Verdict::Accepted { blocks, payments, cents }
 }
 
-/// The verdict under the first profile.
+/// Row 32.
+pub const NOT_PROVIDED: &str = "<Othr><Id>NOTPROVIDED</Id></Othr>";
+
+/// M1, I1 or a neighbour with this for the BIC of its first debtor's agent.
+pub fn with_agent(text: &str, content: &str) -> String {
+    with(text, "<BICFI>AAAALULL</BICFI>", content)
+}
+
+/// The same with row 32, as an archived message may have it.
+pub fn not_provided(text: &str) -> String {
+    with_agent(text, NOT_PROVIDED)
+}
+
+/// The name of a case that is read so.
+pub fn named(age: Age, name: &str) -> String {
+    let how = if age == Age::Archived { "archived, " } else { "" };
+    format!("{how}{name}")
+}
+
+/// The verdict on a new message under the first profile.
 pub fn judge(message: impl AsRef<[u8]>) -> Verdict {
-    judge_under(Profile::FIRST, message)
+    judge_as(Profile::FIRST, Age::New, message)
 }
 
 pub fn judge_instant(message: impl AsRef<[u8]>) -> Verdict {
-    judge_under(Profile::INSTANT, message)
+    judge_as(Profile::INSTANT, Age::New, message)
 }
 
-pub fn judge_under(profile: Profile, message: impl AsRef<[u8]>) -> Verdict {
-    verdict(profile, message.as_ref(), &mut [0; 1024])
+pub fn judge_as(profile: Profile, age: Age, message: impl AsRef<[u8]>) -> Verdict {
+    verdict(profile, age, message.as_ref(), &mut [0; 1024])
 }
 
 pub fn list(ordinals: &[u16]) -> Vec<u8> {

@@ -8,6 +8,8 @@ use independent::{differing, regroup};
 pub struct Pair {
     pub name: String,
     pub profile: Profile,
+    /// Of the message that stands first, whichever way.
+    pub age: Age,
     pub first: String,
     pub second: String,
     pub list: Vec<u8>,
@@ -23,38 +25,40 @@ impl Pair {
     pub fn answers(&self) -> [(&str, String); 2] {
         self.ways().map(|(first, second)| {
             let (one, two) = (first.as_bytes(), second.as_bytes());
-            let (start, length) = differing(self.profile, one, two, &self.list);
-            let answer = regroup(self.profile, one, two, &self.list);
+            let (start, length) = differing(self.profile, self.age, one, two, &self.list);
+            let answer = regroup(self.profile, self.age, one, two, &self.list);
             (&second[start..start + length], answer.to_string())
         })
     }
 }
 
 pub fn all() -> Vec<Pair> {
-    let first = [of_blocks(), of_payments(), of_m1(), refused_otherwise()];
-    let instant = [of_instant_blocks(), of_i1(), of_both_profiles()];
-    first.into_iter().chain(instant).flatten().collect()
+    let first = [of_blocks(), of_payments(), of_m1(Age::New), refused_otherwise()];
+    let instant = [of_instant_blocks(), of_i1(Age::New), of_both_profiles()];
+    let archived = [of_m1(Age::Archived), of_i1(Age::Archived), of_archived(), refused_archived()];
+    first.into_iter().chain(instant).chain(archived).flatten().collect()
 }
 
-/// A pair that must get these texts and answers.
+/// A pair of new messages that must get these texts and answers.
 fn pair(
     name: impl Into<String>,
     messages: [&str; 2],
     list: &[u8],
     wanted: [(&str, &str); 2],
 ) -> Pair {
-    pair_under(Profile::FIRST, name, messages, list, wanted)
+    pair_as((Profile::FIRST, Age::New), name, messages, list, wanted)
 }
 
-fn pair_under(
-    profile: Profile,
+fn pair_as(
+    (profile, age): (Profile, Age),
     name: impl Into<String>,
     [first, second]: [&str; 2],
     list: &[u8],
     wanted: [(&str, &str); 2],
 ) -> Pair {
-    let (name, first, second) = (name.into(), first.to_string(), second.to_string());
-    let pair = Pair { name, profile, first, second, list: list.to_vec() };
+    let name = named(age, &name.into());
+    let [first, second] = [first, second].map(str::to_string);
+    let pair = Pair { name, profile, age, first, second, list: list.to_vec() };
     let wanted = wanted.map(|(text, answer)| (text, answer.to_string()));
     assert_eq!(pair.answers(), wanted, "{}", pair.name);
     pair
@@ -114,13 +118,30 @@ impl Place {
         let [there, back] = [1, 0].map(|k| format!("REFUSED 20 k={k} field={field}"));
         let wanted = [(texts[1], there.as_str()), (texts[0], back.as_str())];
         let name = self.named(&format!("{name}, field {field}"));
-        pair_under(self.profile, name, [first, second], &list(&[1, 0]), wanted)
+        pair_as((self.profile, Age::New), name, [first, second], &list(&[1, 0]), wanted)
     }
 
     fn equal(&self, name: &str, edits: [Edit; 2]) -> Pair {
         let [first, second] = &self.edited(edits);
         let name = self.named(&format!("{name}, equal"));
-        pair_under(self.profile, name, [first, second], &list(&[1, 0]), [("", "ACCEPTED"); 2])
+        let read = (self.profile, Age::New);
+        pair_as(read, name, [first, second], &list(&[1, 0]), [("", "ACCEPTED"); 2])
+    }
+
+    /// A payment whose debtor's agent was not provided in the first message, and which has a BIC and
+    /// this edit in the second. That regrouping gives this text and field if the first message is
+    /// archived; back, the one that holds row 32 is always new.
+    fn not_provided(&self, age: Age, name: &str, edit: Edit, text: &str, field: usize) -> Pair {
+        let [first, second] = &self.edited([&|b| given(b, 7, "NOTPROVIDED"), edit]);
+        let offset = first.find("<Othr>").expect("row 32");
+        let withdrawn = format!("REFUSED 28 element=32 offset={offset}");
+        let there = match age {
+            Age::New => ("", format!("FIRST {withdrawn}")),
+            Age::Archived => (text, format!("REFUSED 20 k=1 field={field}")),
+        };
+        let wanted = [(there.0, there.1.as_str()), ("", &format!("SECOND {withdrawn}"))];
+        let name = self.named(&format!("NOTPROVIDED and {name}"));
+        pair_as((self.profile, age), name, [first, second], &list(&[1, 0]), wanted)
     }
 
     /// Two texts of a field, or one alone.
@@ -152,7 +173,6 @@ fn of_blocks() -> Vec<Pair> {
         (5, Some("Hospital"), Some("Clinic")),
         (6, Some("BE68539007547034"), Some("DE89370400440532013000")),
         (7, Some("BBBBLULL"), Some("BBBBLULLXXX")),
-        (7, Some("BBBBLULL"), Some("NOTPROVIDED")),
         (8, Some("Study 3"), Some("Study 34")),
         (8, Some("Study 34"), None),
     ]
@@ -163,6 +183,7 @@ fn of_blocks() -> Vec<Pair> {
         place.equal("true and none", [&|b| given(b, 1, "true"), &as_it_is]),
         place.equal("NORM and none", [&|b| given(b, 2, "NORM"), &as_it_is]),
         place.differing("every field", 1, [&|b| filled(b, asked::EVERY), &as_it_is], ["false", ""]),
+        place.not_provided(Age::New, "AAAALULL", &as_it_is, "AAAALULL", 7),
     ]);
     pairs
 }
@@ -241,7 +262,10 @@ fn remittances(place: &Place) -> Vec<Pair> {
 }
 
 /// M1 with M2, M3 and itself.
-fn of_m1() -> Vec<Pair> {
+fn of_m1(age: Age) -> Vec<Pair> {
+    let pair = |name, messages, list: &[u8], wanted| {
+        pair_as((Profile::FIRST, age), name, messages, list, wanted)
+    };
     let both = |text, answer| [(text, answer); 2];
     let white = M1.replace("><", "> <");
     let end_to_end = "REFUSED 20 k=0 field=10";
@@ -319,11 +343,11 @@ fn of_instant_blocks() -> Vec<Pair> {
 }
 
 /// I1 with the instant neighbours of M2 and M3, and with itself.
-fn of_i1() -> Vec<Pair> {
+fn of_i1(age: Age) -> Vec<Pair> {
     let both = |text, answer| [(text, answer); 2];
     let (i1, i2, i3) = (i1(), instant(&m2(), MOMENT), instant(&m3(), MOMENT));
     let pair = |name, second: &str, list: &[u8], wanted| {
-        pair_under(Profile::INSTANT, name, [&i1, second], list, wanted)
+        pair_as((Profile::INSTANT, age), name, [&i1, second], list, wanted)
     };
     let end_to_end = "REFUSED 20 k=0 field=10";
     let ultimate_debtor = "REFUSED 20 k=1 field=8";
@@ -353,7 +377,61 @@ fn of_both_profiles() -> Vec<Pair> {
         let name = if profile.instant { "M1 and I1 as instant" } else { "M1 and I1" };
         let wanted = [there, back].map(|whose| format!("{whose} {refusal}"));
         let wanted = [("", wanted[0].as_str()), ("", wanted[1].as_str())];
-        pair_under(profile, name, [M1, &i1], &list(&[0, 1]), wanted)
+        pair_as((profile, Age::New), name, [M1, &i1], &list(&[0, 1]), wanted)
     })
     .into()
+}
+
+/// Archived messages with row 32: field 7 differs, and is the lowest that does or not.
+fn of_archived() -> Vec<Pair> {
+    let mut pairs = Vec::new();
+    for place in [a_block(), an_instant_block()] {
+        let of = |name, edit: Edit, text, field| {
+            place.not_provided(Age::Archived, name, edit, text, field)
+        };
+        pairs.extend([
+            of("AAAALULL", &as_it_is, "AAAALULL", 7),
+            of("BBBBLULLXXX", &|b| given(b, 7, "BBBBLULLXXX"), "BBBBLULLXXX", 7),
+            of("AAAALULL and another amount", &|b| given(b, 11, "13"), "AAAALULL", 7),
+            of("AAAALULL and another debtor", &|b| given(b, 5, "Clinic"), "Clinic", 5),
+        ]);
+    }
+    pairs
+}
+
+/// Row 32 in both messages, and 15 to 19 before field 7 is looked at.
+fn refused_archived() -> Vec<Pair> {
+    let mut pairs = Vec::new();
+    for (profile, text) in [(Profile::FIRST, M1.to_string()), (Profile::INSTANT, i1())] {
+        let other = not_provided(&text);
+        let of = |name: &str, messages, ordinals: &[u16], wanted: [(&str, &str); 2]| {
+            let name = format!("{}{name}", if profile.instant { "I1" } else { "M1" });
+            pair_as((profile, Age::Archived), name, messages, &list(ordinals), wanted)
+        };
+        let offset = other.find("<Othr>").expect("row 32");
+        let second = format!("SECOND REFUSED 28 element=32 offset={offset}");
+        let back = ("", second.as_str());
+        pairs.extend([
+            of(" without BIC twice", [&other, &other], &[0, 1], [back; 2]),
+            of(
+                " without BIC and with, by 2, 0",
+                [&other, &text],
+                &[2, 0],
+                [("", "REFUSED 18 k=0 field=0"), back],
+            ),
+            of(
+                " without BIC and with, by 0",
+                [&other, &text],
+                &[0],
+                [("", "REFUSED 17 k=0 field=0"), back],
+            ),
+            of(
+                " without BIC and with, by 1, 0",
+                [&other, &text],
+                &[1, 0],
+                [("AAAALULL", "REFUSED 20 k=0 field=7"), back],
+            ),
+        ]);
+    }
+    pairs
 }
