@@ -28,15 +28,15 @@ use Rattle.host.specs.Promises.{HostVerdictPromise, HostRegroupPromise}
 use Rattle.host.proofs.Laws.{four-length}
 
 -- two answers that keep the promise of `glowenzo_verdict`, and what they leave in the table, are the same
-pub verdicts-agree : {profile : ℕ} {message before after other : List ℕ} (r q : OfMessage) → HostVerdictPromise profile message before r after → HostVerdictPromise profile message before q other → r ≡ q
+pub verdicts-agree : {profile archived : ℕ} {message before after other : List ℕ} (r q : OfMessage) → HostVerdictPromise profile archived message before r after → HostVerdictPromise profile archived message before q other → r ≡ q
 verdicts-agree r q a b = one-message r q (a .answer-is ∙ sym (b .answer-is))
 
-pub bytes-agree : {profile : ℕ} {message before after other : List ℕ} {r q : OfMessage} → HostVerdictPromise profile message before r after → HostVerdictPromise profile message before q other → after ≡ other
+pub bytes-agree : {profile archived : ℕ} {message before after other : List ℕ} {r q : OfMessage} → HostVerdictPromise profile archived message before r after → HostVerdictPromise profile archived message before q other → after ≡ other
 bytes-agree a b = a .table-is ∙ sym (b .table-is)
 
 -- two answers that keep the promise of `glowenzo_regroup` are the same
-pub regroupings-agree : (profile : ℕ) (first second list : List ℕ) (r q : OfRegrouping) → HostRegroupPromise profile first second list r → HostRegroupPromise profile first second list q → r ≡ q
-regroupings-agree profile first second list r q a b = one-six r q (a ∙ sym b)
+pub regroupings-agree : (profile archived : ℕ) (first second list : List ℕ) (r q : OfRegrouping) → HostRegroupPromise profile archived first second list r → HostRegroupPromise profile archived first second list q → r ≡ q
+regroupings-agree profile archived first second list r q a b = one-six r q (a ∙ sym b)
 
 -- The numbers that bytes make, and the one to three bytes that are left.
 unfoldable pub numbers-32 : List ℕ → List ℕ
@@ -111,31 +111,31 @@ left-of-outcome o old h =
     let ns = written o in
     left-again ns (drop (length (each four-bytes ns)) old) ∙ ap (λ (n : ℕ). left-over (drop n old)) (four-length ns) ∙ left-drop (length ns) old h
 
-room-for-all : (profile : ℕ) (message before : List ℕ) (o : Outcome) → outcome (profile-numbered profile) (numbers-held before) message ≡ o → 4 * length (written o) ≤ length before
+room-for-all : (profile archived : ℕ) (message before : List ℕ) (o : Outcome) → outcome (profile-numbered profile archived) (numbers-held before) message ≡ o → 4 * length (written o) ≤ length before
 unfolding written numbers-held
-room-for-all profile message before (refused-as r) e = omega arith
-room-for-all profile message before (accepted-with root) e =
-    let a = accepted-with-table (profile-numbered profile) (numbered-proper profile) (numbers-held before) message root .0 e in
-    let few = accepted-alone (profile-numbered profile) (numbered-proper profile) message root .0 (a .1) .2 .but-counts .limits .few-payments in
+room-for-all profile archived message before (refused-as r) e = omega arith
+room-for-all profile archived message before (accepted-with root) e =
+    let a = accepted-with-table (profile-numbered profile archived) (numbered-proper profile archived) (numbers-held before) message root .0 e in
+    let few = accepted-alone (profile-numbered profile archived) (numbered-proper profile archived) message root .0 (a .1) .2 .but-counts .limits .few-payments in
     omega (arith, a .0, few, all-numbers-length (payments root))
 
-pub left-stays : {profile : ℕ} {message before after : List ℕ} {r : OfMessage} → HostVerdictPromise profile message before r after → left-over after ≡ left-over before
-left-stays {profile} {message} {before} a =
-    ap left-over (a .table-is) ∙ left-of-outcome (outcome (profile-numbered profile) (numbers-held before) message) before (room-for-all profile message before (outcome (profile-numbered profile) (numbers-held before) message) refl)
+pub left-stays : {profile archived : ℕ} {message before after : List ℕ} {r : OfMessage} → HostVerdictPromise profile archived message before r after → left-over after ≡ left-over before
+left-stays {profile} {archived} {message} {before} a =
+    ap left-over (a .table-is) ∙ left-of-outcome (outcome (profile-numbered profile archived) (numbers-held before) message) before (room-for-all profile archived message before (outcome (profile-numbered profile archived) (numbers-held before) message) refl)
 
 -- The six numbers. Of a message: number 0 exactly when the table is long enough and the rules hold; counts of zero on every refusal; no element and no offset where it is
 -- accepted.
-module _ {profile : ℕ} {message before after : List ℕ} {r : OfMessage} (a : HostVerdictPromise profile message before r after) where
-  pub zero-exactly : (r .number ≡ 0) ↔ (least-table ≤ numbers-held before) × Accepted (profile-numbered profile) message
+module _ {profile archived : ℕ} {message before after : List ℕ} {r : OfMessage} (a : HostVerdictPromise profile archived message before r after) where
+  pub zero-exactly : (r .number ≡ 0) ↔ (least-table ≤ numbers-held before) × Accepted (profile-numbered profile archived) message
   unfolding as-answer
   zero-exactly =
-      let n : r .number ≡ verdict (profile-numbered profile) (numbers-held before) message .number = ap (λ (m : MessageAnswer). m .number) (a .answer-is) in
-      let z = the-order.accepted-zero (profile-numbered profile) (numbered-proper profile) (numbers-held before) message in
+      let n : r .number ≡ verdict (profile-numbered profile archived) (numbers-held before) message .number = ap (λ (m : MessageAnswer). m .number) (a .answer-is) in
+      let z = the-order.accepted-zero (profile-numbered profile archived) (numbered-proper profile archived) (numbers-held before) message in
       ((λ e. z .0 (sym n ∙ e)), (λ h. n ∙ z .1 h))
 
   pub refused-counts : (r .number ≡ 0 → ⊥) → (r .blocks ≡ 0) × (r .payments ≡ 0) × (r .cents ≡ 0)
   unfolding as-answer verdict answer-to refused accepted
-  refused-counts n = go (outcome (profile-numbered profile) (numbers-held before) message) (a .answer-is)
+  refused-counts n = go (outcome (profile-numbered profile archived) (numbers-held before) message) (a .answer-is)
     where
       go : (o : Outcome) → as-answer r ≡ answer-to o → (r .blocks ≡ 0) × (r .payments ≡ 0) × (r .cents ≡ 0)
       go (refused-as x) e = (ap (λ (m : MessageAnswer). m .blocks) e, ap (λ (m : MessageAnswer). m .payments) e, ap (λ (m : MessageAnswer). m .cents) e)
@@ -145,18 +145,18 @@ module _ {profile : ℕ} {message before after : List ℕ} {r : OfMessage} (a : 
   unfolding as-answer verdict answer-to accepted
   accepted-nowhere z =
       let h = zero-exactly .0 z in
-      let t = accepts-with-table (profile-numbered profile) (numbered-proper profile) (numbers-held before) message (h .0) .1 (h .1) in
+      let t = accepts-with-table (profile-numbered profile archived) (numbered-proper profile archived) (numbers-held before) message (h .0) .1 (h .1) in
       let e : as-answer r ≡ answer-to (accepted-with (t .0)) = a .answer-is ∙ ap answer-to (t .1) in
       (ap (λ (m : MessageAnswer). m .element) e, ap (λ (m : MessageAnswer). m .offset) e)
 
 -- Of a regrouping: number 0 exactly when the second message regroups the first by the list; k, field, element and offset only where an answer has them.
-module _ (profile : ℕ) (first second list : List ℕ) (r : OfRegrouping) (a : HostRegroupPromise profile first second list r) where
-  pub regrouped-exactly : All (λ b. b < 256) list → (r .number ≡ 0) ↔ Regroups (profile-numbered profile) first second list
+module _ (profile archived : ℕ) (first second list : List ℕ) (r : OfRegrouping) (a : HostRegroupPromise profile archived first second list r) where
+  pub regrouped-exactly : All (λ b. b < 256) list → (r .number ≡ 0) ↔ Regroups (profile-numbered profile archived) first second list
   unfolding as-regrouping-answer
   regrouped-exactly h =
-      let n : r .number ≡ regrouping (profile-numbered profile) first second list .number = ap (λ (m : RegroupingAnswer). m .number) a in
-      let z = six.zero-exactly (profile-numbered profile) (numbered-proper profile) first second list h in
+      let n : r .number ≡ regrouping (profile-numbered profile archived) first second list .number = ap (λ (m : RegroupingAnswer). m .number) a in
+      let z = six.zero-exactly (profile-numbered profile archived) (numbered-proper profile archived) first second list h in
       ((λ e. z .0 (sym n ∙ e)), (λ g. n ∙ z .1 g))
 
   pub regrouped-six : SixNumbers (as-regrouping-answer r)
-  regrouped-six = subst SixNumbers (sym a) (six-numbers (profile-numbered profile) (numbered-proper profile) first second list)
+  regrouped-six = subst SixNumbers (sym a) (six-numbers (profile-numbered profile archived) (numbered-proper profile archived) first second list)

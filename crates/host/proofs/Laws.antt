@@ -93,28 +93,28 @@ held-long : (table : List ℕ) → 4096 ≤ length table → 1024 ≤ numbers-he
 unfolding numbers-held
 held-long table h = omega (arith, h)
 
-told : {profile : ℕ} (s before after : List ℕ) (v : Verdict) {r : OfMessage} → as-answer r ≡ verdict-says v → verdict-says v ≡ answer-to (outcome (profile-numbered profile) (numbers-held before) s)
-    → after ≡ bytes-after (outcome (profile-numbered profile) (numbers-held before) s) before → HostVerdictPromise profile s before r after
+told : {profile archived : ℕ} (s before after : List ℕ) (v : Verdict) {r : OfMessage} → as-answer r ≡ verdict-says v → verdict-says v ≡ answer-to (outcome (profile-numbered profile archived) (numbers-held before) s)
+    → after ≡ bytes-after (outcome (profile-numbered profile archived) (numbers-held before) s) before → HostVerdictPromise profile archived s before r after
 unfolding verdict
 told s before after v e a t = record { answer-is = e ∙ a; table-is = t }
 
-pub too-short : (profile : ℕ) (s before : List ℕ) {r : OfMessage} → length before < 4096 → as-answer r ≡ verdict-says (Refused TableTooShort) → HostVerdictPromise profile s before r before
+pub too-short : (profile archived : ℕ) (s before : List ℕ) {r : OfMessage} → length before < 4096 → as-answer r ≡ verdict-says (Refused TableTooShort) → HostVerdictPromise profile archived s before r before
 unfolding outcome table-refusal refuse unless-refused answer-to verdict-says refusal-of numbered bytes-after over written each numbers-held
-too-short profile s before h e =
+too-short profile archived s before h e =
     let l : length before / 4 < 1024 = omega (arith, h) in
-    told {profile = profile} s before before (Refused TableTooShort) e (rw (lt-ltb (length before / 4) 1024 l)) (rw (lt-ltb (length before / 4) 1024 l))
+    told {profile = profile} {archived = archived} s before before (Refused TableTooShort) e (rw (lt-ltb (length before / 4) 1024 l)) (rw (lt-ltb (length before / 4) 1024 l))
 
 -- what the reader answered with a table of its own that has room for 1,024 numbers
-module _ (profile : ℕ) (s before : List ℕ) {own filled : List ℕ} {v : Verdict} (h : 4096 ≤ length before) (long : length own ≡ 1024)
-    (a : VerdictPromise (profile-numbered profile) s own v filled) where
-  as-own : outcome (profile-numbered profile) (numbers-held before) s ≡ outcome (profile-numbered profile) (length own) s
-  as-own = long-enough (profile-numbered profile) s (numbers-held before) (held-long before h) ∙ sym (long-enough (profile-numbered profile) s (length own) (omega (arith, long)))
+module _ (profile archived : ℕ) (s before : List ℕ) {own filled : List ℕ} {v : Verdict} (h : 4096 ≤ length before) (long : length own ≡ 1024)
+    (a : VerdictPromise (profile-numbered profile archived) s own v filled) where
+  as-own : outcome (profile-numbered profile archived) (numbers-held before) s ≡ outcome (profile-numbered profile archived) (length own) s
+  as-own = long-enough (profile-numbered profile archived) s (numbers-held before) (held-long before h) ∙ sym (long-enough (profile-numbered profile archived) s (length own) (omega (arith, long)))
 
-  pub refused-bytes : {f : Fault} {r : OfMessage} → v ≡ Refused f → as-answer r ≡ verdict-says (Refused f) → HostVerdictPromise profile s before r before
+  pub refused-bytes : {f : Fault} {r : OfMessage} → v ≡ Refused f → as-answer r ≡ verdict-says (Refused f) → HostVerdictPromise profile archived s before r before
   unfolding verdict answer-to verdict-says refused accepted bytes-after over written each
-  refused-bytes {f} {r} e q = go (outcome (profile-numbered profile) (numbers-held before) s) refl
+  refused-bytes {f} {r} e q = go (outcome (profile-numbered profile archived) (numbers-held before) s) refl
     where
-      go : (o : Outcome) → outcome (profile-numbered profile) (numbers-held before) s ≡ o → HostVerdictPromise profile s before r before
+      go : (o : Outcome) → outcome (profile-numbered profile archived) (numbers-held before) s ≡ o → HostVerdictPromise profile archived s before r before
       go (refused-as x) p = told s before before (Refused f) q (sym (ap verdict-says e) ∙ a .answer-is ∙ ap answer-to (sym as-own)) (rw p)
       go (accepted-with root) p =
           let t : refused (refusal-of f) ≡ answer-to (accepted-with root) = sym (ap verdict-says e) ∙ a .answer-is ∙ ap answer-to (sym as-own ∙ p) in
@@ -122,8 +122,8 @@ module _ (profile : ℕ) (s before : List ℕ) {own filled : List ℕ} {v : Verd
 
   -- where it accepted, its table starts with all the payments' numbers
   module _ {b p c : ℕ} (e : v ≡ Accepted b p c) where
-    numbered-by : Filled (profile-numbered profile) s own filled b p c
-    numbered-by = accepted-fills (numbered-proper profile) (subst (λ (w : Verdict). VerdictPromise (profile-numbered profile) s own w filled) e a)
+    numbered-by : Filled (profile-numbered profile archived) s own filled b p c
+    numbered-by = accepted-fills (numbered-proper profile archived) (subst (λ (w : Verdict). VerdictPromise (profile-numbered profile archived) s own w filled) e a)
 
     pub room : length filled ≡ 1024 → 16 * p ≤ 1024
     unfolding over table-after written
@@ -133,7 +133,7 @@ module _ (profile : ℕ) (s before : List ℕ) {own filled : List ℕ} {v : Verd
         omega (arith, l, ap length (n .table-is), length-append ns (drop (length ns) own), all-numbers-length (payments (n .root)), n .payments-are)
 
     pub accepted-bytes : {r : OfMessage} {after : List ℕ} → length filled ≡ 1024 → as-answer r ≡ verdict-says (Accepted b p c)
-        → (16 * p ≤ length filled → 4 * (16 * p) ≤ length before → after ≡ each four-bytes (take (16 * p) filled) ++ drop (4 * (16 * p)) before) → HostVerdictPromise profile s before r after
+        → (16 * p ≤ length filled → 4 * (16 * p) ≤ length before → after ≡ each four-bytes (take (16 * p) filled) ++ drop (4 * (16 * p)) before) → HostVerdictPromise profile archived s before r after
     unfolding verdict bytes-after table-after over written
     accepted-bytes {r} {after} l q w =
         let n = numbered-by in
@@ -142,15 +142,15 @@ module _ (profile : ℕ) (s before : List ℕ) {own filled : List ℕ} {v : Verd
         let many : length ns ≡ 16 * p = all-numbers-length (payments (n .root)) ∙ ap (λ (m : ℕ). 16 * m) (sym (n .payments-are)) in
         let x : take (16 * p) filled ≡ ns = ap (take (16 * p)) (n .table-is) ∙ take-at ns (drop (length ns) own) (16 * p) many in
         let y : 4 * (16 * p) ≡ length (each four-bytes ns) = ap (λ (m : ℕ). 4 * m) (sym many) ∙ sym (four-length ns) in
-        let o : outcome (profile-numbered profile) (numbers-held before) s ≡ accepted-with (n .root) = as-own ∙ n .outcome-is in
+        let o : outcome (profile-numbered profile archived) (numbers-held before) s ≡ accepted-with (n .root) = as-own ∙ n .outcome-is in
         told s before after (Accepted b p c) q (sym (ap verdict-says e) ∙ a .answer-is ∙ ap answer-to (sym as-own))
         (w (omega (arith, few, l)) (omega (arith, few, h)) ∙ rw (o, x) (ap (λ (m : ℕ). each four-bytes ns ++ drop m before) y))
 
 -- what is promised in a profile is promised in the one that its number names
-pub in-profile : (profile : ℕ) {named : Profile} {s own filled : List ℕ} {v : Verdict} → named ≡ profile-numbered profile → VerdictPromise named s own v filled
-    → VerdictPromise (profile-numbered profile) s own v filled
-in-profile profile {s = s} {own} {filled} {v} e a = subst (λ (p : Profile). VerdictPromise p s own v filled) e a
+pub in-profile : (profile archived : ℕ) {named : Profile} {s own filled : List ℕ} {v : Verdict} → named ≡ profile-numbered profile archived → VerdictPromise named s own v filled
+    → VerdictPromise (profile-numbered profile archived) s own v filled
+in-profile profile archived {s = s} {own} {filled} {v} e a = subst (λ (p : Profile). VerdictPromise p s own v filled) e a
 
-pub regrouped-in-profile : (profile : ℕ) {named : Profile} (first second list : List ℕ) {a : RegroupingAnswer} → named ≡ profile-numbered profile
-    → a ≡ regrouping named first second list → a ≡ regrouping (profile-numbered profile) first second list
-regrouped-in-profile profile first second list e r = r ∙ ap (λ (p : Profile). regrouping p first second list) e
+pub regrouped-in-profile : (profile archived : ℕ) {named : Profile} (first second list : List ℕ) {a : RegroupingAnswer} → named ≡ profile-numbered profile archived
+    → a ≡ regrouping named first second list → a ≡ regrouping (profile-numbered profile archived) first second list
+regrouped-in-profile profile archived first second list e r = r ∙ ap (λ (p : Profile). regrouping p first second list) e

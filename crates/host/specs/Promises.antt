@@ -1,4 +1,4 @@
--- The promises of the two functions for the payment host, in the profile that a number names.
+-- The promises of the two functions for the payment host, in the profile that numbers name.
 use Prim.Native.Nat.{ℕ}
 use mathlib.Core.List.{List}
 use mathlib.Core.Path.{_≡_}
@@ -10,10 +10,10 @@ use Rattle.verdict_answers.specs.declared.OfMessage.{OfMessage}
 use Rattle.verdict_answers.specs.declared.OfRegrouping.{OfRegrouping}
 
 -- `glowenzo_verdict`: the rules' verdict on the message and the numbers that the table holds, as six numbers, and every byte of the table afterwards.
-pub record HostVerdictPromise (profile : ℕ) (message before : List ℕ) (answer : OfMessage) (after : List ℕ) : Type 0 where
-  pub answer-is : as-answer answer ≡ verdict (profile-numbered profile) (numbers-held before) message
-  pub table-is : after ≡ bytes-after (outcome (profile-numbered profile) (numbers-held before) message) before
+pub record HostVerdictPromise (profile archived : ℕ) (message before : List ℕ) (answer : OfMessage) (after : List ℕ) : Type 0 where
+  pub answer-is : as-answer answer ≡ verdict (profile-numbered profile archived) (numbers-held before) message
+  pub table-is : after ≡ bytes-after (outcome (profile-numbered profile archived) (numbers-held before) message) before
 
 -- `glowenzo_regroup`: the rules' answer to the regrouping, as six numbers.
-abbrev pub HostRegroupPromise : (profile : ℕ) (first second list : List ℕ) → OfRegrouping → Type 0
-HostRegroupPromise profile first second list answer = as-regrouping-answer answer ≡ regrouping (profile-numbered profile) first second list
+abbrev pub HostRegroupPromise : (profile archived : ℕ) (first second list : List ℕ) → OfRegrouping → Type 0
+HostRegroupPromise profile archived first second list answer = as-regrouping-answer answer ≡ regrouping (profile-numbered profile archived) first second list

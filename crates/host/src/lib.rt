@@ -16,12 +16,13 @@ ghost use Rattle.host.specs.Promises.{HostVerdictPromise, HostRegroupPro
 // The bytes of the least table.
 const LEAST_BYTES: usize = 4 * paper::LEAST_TABLE;
 
-// The profile that a number names: 1 is the instant one, any other the first.
-fn profile_of(number: u64) -> Profile
-    ensures { λ r. ⌜ profile-named r ≡ profile-numbered number ⌝ }
+// The profile that numbers name: 1 is the instant one, any other the first; of a new message where `archived` is 0, of an archived one where it is any other.
+fn profile_of(profile: u64, archived: u64) -> Profile
+    ensures { λ r. ⌜ profile-named r ≡ profile-numbered profile archived ⌝ }
 {
     Profile {
-        instant: number == 1,
+        instant: profile == 1,
+        archived: archived != 0,
     }
 }
 
@@ -56,16 +57,21 @@ fn write(numbers: &[u32], many: usize, table: &mut [u8])
     }
 }
 
-// The verdict on a message, in the profile that a number names, with the table as bytes.
+// The verdict on a message, in the profile that numbers name, with the table as bytes.
 #[no_mangle]
-pub extern "C" fn glowenzo_verdict(profile: u64, message: &[u8], table: &mut [u8]) -> OfMessage
-    ensures { λ r. ⌜ HostVerdictPromise profile (now (message .entry)) (now (table .entry)) r (now (table .exit)) ⌝ }
+pub extern "C" fn glowenzo_verdict(
+    profile: u64,
+    archived: u64,
+    message: &[u8],
+    table: &mut [u8],
+) -> OfMessage
+    ensures { λ r. ⌜ HostVerdictPromise profile archived (now (message .entry)) (now (table .entry)) r (now (table .exit)) ⌝ }
 {
     if table.len() < LEAST_BYTES {
         return verdict_answers::of_message(Verdict::Refused(Fault::TableTooShort));
     }
     let mut numbers = [0u32; paper::LEAST_TABLE];
-    let found = verdict_reader::verdict(profile_of(profile), message, &mut numbers);
+    let found = verdict_reader::verdict(profile_of(profile, archived), message, &mut numbers);
     match found {
         Verdict::Refused(fault) => verdict_answers::of_message(Verdict::Refused(fault)),
         Verdict::Accepted {
@@ -83,16 +89,17 @@ pub extern "C" fn glowenzo_verdict(profile: u64, message: &[u8], table: &mut [u8
     }
 }
 
-// Whether one message regroups another by a list, both in the profile that a number names.
+// Whether one message regroups another by a list, both in the profile that a number names, the first perhaps archived.
 #[no_mangle]
 pub extern "C" fn glowenzo_regroup(
     profile: u64,
+    archived: u64,
     first: &[u8],
     second: &[u8],
     list: &[u8],
 ) -> OfRegrouping
-    ensures { λ r. ⌜ HostRegroupPromise profile (now (first .entry)) (now (second .entry)) (now (list .entry)) r ⌝ }
+    ensures { λ r. ⌜ HostRegroupPromise profile archived (now (first .entry)) (now (second .entry)) (now (list .entry)) r ⌝ }
 {
-    let found = move_regrouping::regroup(profile_of(profile), first, second, list);
+    let found = move_regrouping::regroup(profile_of(profile, archived), first, second, list);
     verdict_answers::of_regrouping(found)
 }

@@ -8,7 +8,7 @@ use lib.ListN.{length}
 use borrow.Author.Tests.{ne-eqb, le-leb, lt-leb}
 use Rattle.paper.specs.Bytes.{is, Every, every-none, every-more, every, value-character}
 use Rattle.paper.specs.Values.{among, lies-from, right-for, spaces-alone, allowed}
-use Rattle.paper.specs.Refusals.{first-not, leaf-refusal}
+use Rattle.paper.specs.Refusals.{first-not, text-refusal}
 use Rattle.leaf_texts.proofs.Laws.{one-first}
 use Rattle.leaf_values.specs.Judgements.{told, Judges}
 use Rattle.leaf_values.specs.declared.Judgement.the-variants.{Fine, EmptyOrTooLong, NotInTheSet, NotAllowed}
@@ -29,16 +29,16 @@ free parent row currency w n4 n11 n39 n40 n12 n13 n17 n19 n33 n36 n21 n23 n5 n57
 
 module _ (parent row longest : ℕ) (currency w : List ℕ) where
   pub empty-judges : length w < 1 → Judges parent row longest currency w EmptyOrTooLong
-  unfolding leaf-refusal lies-from told
+  unfolding text-refusal lies-from told
   empty-judges k = record { judged = λ r h e f g. rw (e, lt-leb 1 (length w) k) }
 
   pub long-judges : longest < length w → Judges parent row longest currency w EmptyOrTooLong
-  unfolding leaf-refusal lies-from told
+  unfolding text-refusal lies-from told
   long-judges k = record { judged = λ r h e f g. rw (e, f, le-leb 1 (length w) (omega arith), lt-leb (length w) longest k) }
 
   module _ (low : 1 ≤ length w) (high : length w ≤ longest) where
     pub outside-judges : (i : ℕ) → i ≡ first-not value-character w → i < length w → Judges parent row longest currency w (NotInTheSet i)
-    unfolding leaf-refusal lies-from told
+    unfolding text-refusal lies-from told
     outside-judges i q k =
         record {
           judged = λ r h e f g.
@@ -47,18 +47,18 @@ module _ (parent row longest : ℕ) (currency w : List ℕ) where
 
     module _ (inside : every value-character w ≡ true) where
       pub spaces-judges : every (is " ") w ≡ true → Judges parent row longest currency w NotAllowed
-      unfolding leaf-refusal lies-from told allowed spaces-alone
+      unfolding text-refusal lies-from told allowed spaces-alone
       spaces-judges s =
           record { judged = λ r h e f g. rw (e, f, le-leb 1 (length w) low, le-leb (length w) longest high, inside, s) }
 
       pub not-allowed-judges :
           every (is " ") w ≡ false → right-for parent row currency w ≡ false → Judges parent row longest currency w NotAllowed
-      unfolding leaf-refusal lies-from told allowed spaces-alone
+      unfolding text-refusal lies-from told allowed spaces-alone
       not-allowed-judges s a =
           record { judged = λ r h e f g. rw (e, f, g, le-leb 1 (length w) low, le-leb (length w) longest high, inside, s, a) }
 
       pub fine-judges :
           every (is " ") w ≡ false → right-for parent row currency w ≡ true → Judges parent row longest currency w Fine
-      unfolding leaf-refusal lies-from told allowed spaces-alone
+      unfolding text-refusal lies-from told allowed spaces-alone
       fine-judges s a =
           record { judged = λ r h e f g. rw (e, f, g, le-leb 1 (length w) low, le-leb (length w) longest high, inside, s, a) }

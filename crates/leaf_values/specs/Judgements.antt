@@ -5,7 +5,7 @@ use mathlib.Core.List.{List}
 use mathlib.Core.Option.{Option, none}
 use Rattle.paper.specs.Form.{Head}
 use Rattle.paper.specs.Rows.{Row, longest-of}
-use Rattle.paper.specs.Refusals.{Refusal, refuse, leaf-refusal}
+use Rattle.paper.specs.Refusals.{Refusal, refuse, text-refusal}
 use Rattle.leaf_values.specs.declared.Judgement.{Judgement}
 use Rattle.leaf_values.specs.declared.Judgement.the-variants.{Fine, EmptyOrTooLong, NotInTheSet, NotAllowed}
 
@@ -20,4 +20,4 @@ told row h NotAllowed = refuse 8 row (h .at)
 pub record Judges (parent row longest : ℕ) (currency text : List ℕ) (answer : Judgement) : Type 0 where
   pub judged :
       (r : Row) (h : Head) → r .row ≡ row → longest-of (r .holds) ≡ longest → h .currency ≡ currency →
-      leaf-refusal parent r h text ≡ told row h answer
+      text-refusal parent r h text ≡ told row h answer

@@ -1,11 +1,11 @@
--- The promises of `regroup` and `differing` determine their answers; and demand 3 as the promise of `regroup` has it, in either profile
+-- The promises of `regroup` and `differing` determine their answers; and demand 3 as the promise of `regroup` has it, in whichever profile is named
 -- (crates/paper_acceptance/proofs/Proper.antt, `named-proper`).
 use Prim.Native.Nat.{ℕ, _<_}
 use mathlib.Core.List.{List}
 use mathlib.Core.Path.{_≡_, sym, ap, _∙_}
 use mathlib.Core.Logic.{_↔_}
 use denote.Ref.{RefT, now}
-use Rattle.paper.specs.Rows.{Profile}
+use Rattle.paper.specs.Rows.{Profile, as-new}
 use Rattle.paper.specs.Accepted.{All, Accepted}
 use Rattle.paper.specs.Regrouping.{RegroupingAnswer, Regroups, AcceptableList, EquallyOften}
 use Rattle.paper.specs.Order.{AnswerIs}
@@ -44,5 +44,5 @@ answers-in-order {profile} proper first second file r m h a =
     ((λ i. e .0 i ∙ sym m), (λ i. e .1 (i ∙ m)))
 
 -- For two accepted messages an acceptable list exists exactly when every payment, taken as its seventeen fields, stands equally often in both.
-pub list-exists-exactly : {profile : Profile} → Proper profile → (first second : List ℕ) (a : Accepted profile first) (b : Accepted profile second) → AcceptableList profile first second ↔ EquallyOften (a .root) (b .root)
+pub list-exists-exactly : {profile : Profile} → Proper profile → (first second : List ℕ) (a : Accepted profile first) (b : Accepted (as-new profile) second) → AcceptableList profile first second ↔ EquallyOften (a .root) (b .root)
 list-exists-exactly {profile} proper first second a b = regroups.list-exists-exactly profile proper first second a b

@@ -2,14 +2,14 @@
 use Prim.Native.Nat.{ℕ}
 use native.Mathlib.Omega.{arith}
 use mathlib.Core.List.{List, []}
-use mathlib.Core.Bool.{true}
+use mathlib.Core.Bool.{Bool, true, false}
 use mathlib.Core.Option.{Option, none, some}
 use mathlib.Core.Path.{_≡_, refl, sym, _∙_, ap, subst}
 use borrow.Author.Tests.{eq-eqb, ne-eqb}
 use lib.ListN.{length, length-map}
 use lib.Dec.{eqb}
 use Rattle.paper.specs.Form.{Element}
-use Rattle.paper.specs.Rows.{Profile}
+use Rattle.paper.specs.Rows.{Profile, for-new, for-archived, profile-by, as-new}
 use Rattle.paper.specs.Payments.{payments, in-payment}
 use Rattle.paper.specs.Refusals.{accepted-with, outcome-alone}
 use Rattle.paper.specs.Fields.{values-of, field-part}
@@ -50,6 +50,12 @@ when-accepted (decided-refused o) e use-it = let z : _≡_ {A = ℕ} 0 1 = cc in
 when-accepted {s = s} {tree} {order} {p = p} (decided-accepted {root = root} {p = y} l o t q) e use-it =
     let g : y ≡ p = cc in use-it root o (subst (λ (n : ℕ). InOrder s tree order n root) g (in-order q))
 
+-- the same rows, of a new message
+pub new-of : (instant archived : Bool) → profile-by instant false ≡ as-new (profile-by instant archived)
+unfolding profile-by as-new for-new for-archived
+new-of instant true = refl
+new-of instant false = refl
+
 -- the second message, given the first's outcome; and the first
 pub second-refused : {profile : Profile} (root : Element) (list : List ℕ) {second tree order : List ℕ} {v : Verdict} {f : Fault} → Decided profile second tree order v → v ≡ Refused f
     → regrouping-says (regroup.SecondRefused f) ≡ of-outcomes (accepted-with root) (outcome-alone profile second) list
@@ -68,7 +74,7 @@ unfolding regrouping-says of-outcomes regrouping
 first-refused second list d e = rw (refused-has d e)
 
 pub first-accepted : {profile : Profile} (second list : List ℕ) {first tree order : List ℕ} {v : Verdict} {b p c : ℕ} (r : Regrouping) → Decided profile first tree order v → v ≡ Accepted b p c
-    → ((root1 : Element) → InOrder first tree order p root1 → regrouping-says r ≡ of-outcomes (accepted-with root1) (outcome-alone profile second) list)
+    → ((root1 : Element) → InOrder first tree order p root1 → regrouping-says r ≡ of-outcomes (accepted-with root1) (outcome-alone (as-new profile) second) list)
     → regrouping-says r ≡ regrouping profile first second list
 unfolding regrouping
 first-accepted second list r d e h = when-accepted d e (λ root1 o i. rw o (h root1 i))
@@ -140,7 +146,7 @@ NotTwenty (regroup.FieldsDiffer k f) = ⊥
 
 -- the differing part, by the answer
 module _ (profile : Profile) (first second list : List ℕ) {r : Regrouping} (is : RegroupPromise profile first second list r) where
-  pub part-of-20 : {k field : ℕ} → r ≡ regroup.FieldsDiffer k field → differing-part profile first second list ≡ field-part (outcome-alone profile second) k field
+  pub part-of-20 : {k field : ℕ} → r ≡ regroup.FieldsDiffer k field → differing-part profile first second list ≡ field-part (outcome-alone (as-new profile) second) k field
   unfolding differing-part part-for regrouping-says answered
   part-of-20 e = rw (sym is ∙ ap regrouping-says e)
 

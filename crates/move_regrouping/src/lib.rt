@@ -8,6 +8,7 @@ use rule_limits::Order;
 use tree::Tree;
 ghost use mathlib.Core.Path.{_≡_};
 ghost use Rattle.paper.specs.Form.{Element};
+ghost use Rattle.paper.specs.Rows.{as-new};
 ghost use Rattle.paper.specs.Refusals.{accepted-with, outcome-alone};
 ghost use Rattle.paper.specs.Regrouping.{of-payments, all-values, of-outcomes};
 ghost use Rattle.paper.specs.Answers.{profile-named, regrouping-says};
@@ -57,7 +58,17 @@ fn listed(
     }
 }
 
-// The second message's refusal, and what follows.
+// The profile of the same rows in which a message is new.
+fn as_new(profile: Profile) -> Profile
+    ensures { λ r. ⌜ profile-named r ≡ as-new (profile-named profile) ⌝ }
+{
+    Profile {
+        instant: profile.instant,
+        archived: false,
+    }
+}
+
+// The second message's refusal, read as a new one, and what follows.
 fn with_second(
     profile: Profile,
     first: &[u8],
@@ -68,11 +79,11 @@ fn with_second(
     list: &[u8],
 ) -> Regrouping
     ensures { λ r. ⌜ ((root1 : Element) → InOrder (now (first .entry)) (now (tree1 .entry)) (now (order1 .entry)) many1 root1
-        → regrouping-says r ≡ of-outcomes (accepted-with root1) (outcome-alone (profile-named profile) (now (second .entry))) (now (list .entry))) ⌝ }
+        → regrouping-says r ≡ of-outcomes (accepted-with root1) (outcome-alone (as-new (profile-named profile)) (now (second .entry))) (now (list .entry))) ⌝ }
 {
     let mut tree2 = [0u16; tree::NUMBERS];
     let mut order2 = [0u16; rule_limits::NUMBERS];
-    let found = verdict_stages::outcome(profile, second, &mut tree2, &mut order2);
+    let found = verdict_stages::outcome(as_new(profile), second, &mut tree2, &mut order2);
     match found {
         Verdict::Refused(fault) => Regrouping::SecondRefused(fault),
         Verdict::Accepted {
@@ -95,7 +106,8 @@ fn with_second(
     }
 }
 
-// The answer to a regrouping, both messages read in one profile: the first message's refusal, the second's, 15, 16, 17, and for each k 18, 19, 20.
+// The answer to a regrouping, both messages read by one profile's rows, the first perhaps archived and the second new: the first message's refusal, the second's, 15, 16, 17, and
+// for each k 18, 19, 20.
 pub fn regroup(profile: Profile, first: &[u8], second: &[u8], list: &[u8]) -> Regrouping
     ensures { λ r. ⌜ RegroupPromise (profile-named profile) (now (first .entry)) (now (second .entry)) (now (list .entry)) r ⌝ }
 {
@@ -118,7 +130,12 @@ pub fn differing<'a>(profile: Profile, first: &[u8], second: &'a [u8], list: &[u
 {
     let answer = regroup(profile, first, second, list);
     match answer {
-        Regrouping::FieldsDiffer { k, field } => verdict_reader::field(profile, second, k, field),
+        Regrouping::FieldsDiffer { k, field } => verdict_reader::field(
+            as_new(profile),
+            second,
+            k,
+            field,
+        ),
         Regrouping::Accepted => &second[0..0],
         Regrouping::FirstRefused(_) => &second[0..0],
         Regrouping::SecondRefused(_) => &second[0..0],

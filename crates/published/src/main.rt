@@ -1,8 +1,27 @@
 // Runs the verdict and the regrouping over what the source documents print, and over M1 to M3 and messages of the instant scheme, and writes two lines for each example: what
-// the first profile gives, and the instant one. In the four files a case is `V` with name and message, or `R` with name, first, second and list, and a line feed.
+// the first profile gives, and the instant one. In the four files a case is `V` with name and message, or `R` with name, first, second and list, and a line feed. A case that
+// begins with `v` or `r` has two lines more: what they give where the message, or the first message, is archived.
 use paper::Profile;
 ghost use Prim.Native.Nat.{_<_};
 ghost use lib.ListN.{length};
+
+fn in_profile(instant: bool, archived: bool) -> Profile {
+    Profile { instant, archived }
+}
+
+fn is_regrouping(kind: u8) -> bool {
+    if kind == b'R' {
+        return true;
+    }
+    kind == b'r'
+}
+
+fn is_archived_too(kind: u8) -> bool {
+    if kind == b'v' {
+        return true;
+    }
+    kind == b'r'
+}
 
 // The verdict of the message at an offset. Answers the offset of the next case.
 fn verdict_at(profile: Profile, s: &[u8], at: usize, table: &mut [u32]) -> usize {
@@ -47,18 +66,43 @@ fn answer_at(profile: Profile, words: &[u8], s: &[u8], at: usize, table: &mut [u
     let b = name.end;
     run_printing::text(&s[a..b]);
     run_printing::text(words);
-    if kind == b'R' {
+    if is_regrouping(kind) {
         return regrouping_at(profile, s, b + 1);
     }
     verdict_at(profile, s, b + 1, table)
 }
 
-// The case at an offset, in both profiles. Answers the offset of the next.
+// The answers to the case at an offset in both profiles. Answers the offset of the next case.
+fn in_both(
+    archived: bool,
+    first: &[u8],
+    instant: &[u8],
+    s: &[u8],
+    at: usize,
+    table: &mut [u32],
+) -> usize
+    requires { ⌜ at < length (now s) ⌝ }
+{
+    answer_at(in_profile(false, archived), first, s, at, table);
+    answer_at(in_profile(true, archived), instant, s, at, table)
+}
+
+// The case at an offset. Answers the offset of the next.
 fn case_at(s: &[u8], at: usize, table: &mut [u32]) -> usize
     requires { ⌜ at < length (now s) ⌝ }
 {
-    answer_at(Profile { instant: false }, b": ", s, at, table);
-    answer_at(Profile { instant: true }, b", instant: ", s, at, table)
+    let next = in_both(false, b": ", b", instant: ", s, at, table);
+    if is_archived_too(s[at]) {
+        in_both(
+            true,
+            b", archived: ",
+            b", instant, archived: ",
+            s,
+            at,
+            table,
+        );
+    }
+    next
 }
 
 fn run(s: &[u8], table: &mut [u32]) {

@@ -1,5 +1,5 @@
 // Whether `second.xml` regroups `first.xml` by `list.rgl`, all three in the current folder; one that can't be opened counts as empty. Started with the word `instant` it reads
-// both messages in the instant profile.
+// both messages in the instant profile, with the word `archived` the first as an archived one.
 use paper::Profile;
 ghost use Rattle.io.specs.Counts.{Counts};
 
@@ -33,7 +33,11 @@ fn answer(profile: Profile) {
 }
 
 fn main() {
-    let asked = run_words::asked(Profile { instant: false }, true);
+    let own = Profile {
+        instant: false,
+        archived: false,
+    };
+    let asked = run_words::asked(own, true);
     if asked.known {
         answer(asked.profile);
     }

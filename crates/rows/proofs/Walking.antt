@@ -2,25 +2,28 @@
 use Prim.Native.Nat.{ℕ, _+_, _<_, _≤_}
 use mathlib.Core.List.{List}
 use mathlib.Core.Bool.{Bool, true, false}
-use mathlib.Core.Option.{Option}
+use mathlib.Core.Option.{Option, none, some}
 use mathlib.Core.Path.{_≡_, refl, sym, ap, _∙_}
 use native.Mathlib.Omega.{arith}
 use borrow.Author.Tests.{eq-eqb, ne-eqb}
 use Rattle.paper.specs.Bytes.{bytes}
 use Rattle.paper.specs.Form.{Head, Element, Elements, holding-text, holding-elements, []ᵉ, _∷ᵉ_}
 use Rattle.paper.specs.Rows.{name, name-in, rows as the-rows, instant-changes, every-row, leaf, group, group-under, Place, Contents, text, elements, Row, Profile, row-of, head-of, longest-of}
-use Rattle.paper.specs.Refusals.{Refusal, refuse, _or-else_, ends, only-white, first-at, Sought, never, early, found, seek, Left, from-here, walk, walk-all}
+use Rattle.paper.specs.Values.{among}
+use Rattle.paper.specs.Refusals.{Refusal, refuse, _or-else_, ends, only-white, first-at, Sought, never, early, found, seek, Left, from-here, Judgement, walk, walk-all}
 use Rattle.paper.specs.Answers.{refusal-found, refusal-of, numbered}
 use Rattle.paper.specs.declared.Finding.{Finding}
 use Rattle.paper.specs.declared.Finding.the-variants.{Nothing, Refused}
 use Rattle.paper.specs.declared.Fault.{Fault}
-use Rattle.paper.specs.declared.Fault.the-variants.{NotAllowedThere}
-use Rattle.paper.proofs.Laws.{false-not-true}
+use Rattle.paper.specs.declared.Fault.the-variants.{NotAllowedThere, Withdrawn}
+use Rattle.paper.proofs.Laws.{false-not-true, none-or-else, or-else-none}
 use Rattle.tree.specs.Laid.{between, Entry, Laid, laid-text, laid-elements, LaidAll, laid-none, laid-more}
 use Rattle.tree.proofs.Laws.{Cell, at-cell, close-cell, next-cell, entry-of}
 use Rattle.rows_places.specs.Numbers.{of-entry, places-left, places-of, holds-at, row-at, Stands}
 use Rattle.rows_places.specs.Seek.{ResolvedBetween, Seeks, SeekPromise}
-use Rattle.rows_contents.specs.Judged.{judgement, Judged}
+use Rattle.rows_contents.specs.Judged.{withdrawn-by, at-text, judgement, Judged}
+use Rattle.rows_contents.specs.declared.Judging.{Judging}
+use Rattle.rows_contents.proofs.Judgings.{withdrawn-refused, group-judged, elements-judged, leaf-judged}
 use Rattle.rows.specs.Walk.{unless-found, Walks, WalksAll}
 use Rattle.rows_places.specs.declared.Sought.{Sought as Sought′}
 use Rattle.rows_places.specs.declared.Sought.the-variants as sought
@@ -62,66 +65,75 @@ unfolding first-at
 first-child otherwise (laid-none e) h c = absurd (omega arith)
 first-child otherwise (laid-more one others) h c = at-cell (entry-of one) c
 
--- one element by what it holds
-module _ (profile : Profile) (judge : (parent : ℕ) → Row → Head → List ℕ → Option Refusal) (parent : ℕ) (r : Row) (h : Head) where
-  pub walk-white : (w : List ℕ) (ps : List Place) → r .holds ≡ elements ps → walk profile judge (holding-text h w) parent r ≡ only-white (r .row) ps h w
-  unfolding walk
-  walk-white w ps e =
-      ap (λ (o : Contents). elim o as (λ _. Option Refusal) [ text longest ↦ judge parent r h w | elements places ↦ only-white (r .row) places h w ]) e
+-- one element by what is judged of it and what it holds
+module _ (profile : Profile) (judge : Judgement) (holder : Option Element) (parent : ℕ) (r : Row) (h : Head) where
+  module _ (w : List ℕ) where
+    abbrev text-held : Contents → Option Refusal
+    text-held o = elim o as (λ _. Option Refusal) [ text longest ↦ none | elements places ↦ only-white (r .row) places h w ]
 
-  pub walk-leaf : (w : List ℕ) (n : ℕ) → r .holds ≡ text n → walk profile judge (holding-text h w) parent r ≡ judge parent r h w
-  unfolding walk
-  walk-leaf w n e =
-      ap (λ (o : Contents). elim o as (λ _. Option Refusal) [ text longest ↦ judge parent r h w | elements places ↦ only-white (r .row) places h w ]) e
+    pub walk-white : (ps : List Place) → r .holds ≡ elements ps → judge holder parent r (holding-text h w) ≡ none
+        → walk profile judge (holding-text h w) holder parent r ≡ only-white (r .row) ps h w
+    unfolding walk
+    walk-white ps e n = none-or-else n ∙ ap (λ (o : Contents). text-held o) e
+
+    pub walk-leaf : (n : ℕ) → r .holds ≡ text n → {o : Option Refusal} → judge holder parent r (holding-text h w) ≡ o
+        → walk profile judge (holding-text h w) holder parent r ≡ o
+    unfolding walk
+    walk-leaf n e j = ap (λ (o : Contents). judge holder parent r (holding-text h w) or-else text-held o) e ∙ or-else-none _ ∙ j
+
+    pub walk-refused-text : {x : Refusal} → judge holder parent r (holding-text h w) ≡ some x → walk profile judge (holding-text h w) holder parent r ≡ some x
+    unfolding walk _or-else_
+    walk-refused-text j = rw j
 
   module _ (ts : Elements) where
-    pub walk-group : (ps : List Place) → r .holds ≡ elements ps → walk profile judge (holding-elements h ts) parent r ≡ walk-all profile judge ts (r .row) (from-here ps) (h .close)
-    unfolding walk
-    walk-group ps e =
-        ap
-        (λ (o : Contents).
+    abbrev elements-held : Contents → Option Refusal
+    elements-held o =
         elim o as (λ _. Option Refusal) [
           | text longest ↦ refuse 3 (r .row) (first-at ts (h .start))
-          | elements places ↦ walk-all profile judge ts (r .row) (from-here places) (h .close)
-        ]) e
+          | elements places ↦ walk-all profile judge ts (holding-elements h ts) (r .row) (from-here places) (h .close)
+        ]
 
-    pub walk-in-leaf : (n : ℕ) → r .holds ≡ text n → walk profile judge (holding-elements h ts) parent r ≡ refuse 3 (r .row) (first-at ts (h .start))
+    pub walk-group : (ps : List Place) → r .holds ≡ elements ps → judge holder parent r (holding-elements h ts) ≡ none
+        → walk profile judge (holding-elements h ts) holder parent r ≡ walk-all profile judge ts (holding-elements h ts) (r .row) (from-here ps) (h .close)
     unfolding walk
-    walk-in-leaf n e =
-        ap
-        (λ (o : Contents).
-        elim o as (λ _. Option Refusal) [
-          | text longest ↦ refuse 3 (r .row) (first-at ts (h .start))
-          | elements places ↦ walk-all profile judge ts (r .row) (from-here places) (h .close)
-        ]) e
+    walk-group ps e n = none-or-else n ∙ ap (λ (o : Contents). elements-held o) e
+
+    pub walk-in-leaf : (n : ℕ) → r .holds ≡ text n → judge holder parent r (holding-elements h ts) ≡ none
+        → walk profile judge (holding-elements h ts) holder parent r ≡ refuse 3 (r .row) (first-at ts (h .start))
+    unfolding walk
+    walk-in-leaf m e n = none-or-else n ∙ ap (λ (o : Contents). elements-held o) e
+
+    pub walk-refused-elements : {x : Refusal} → judge holder parent r (holding-elements h ts) ≡ some x → walk profile judge (holding-elements h ts) holder parent r ≡ some x
+    unfolding walk _or-else_
+    walk-refused-elements j = rw j
 
 -- one child by what comes of it
-module _ (profile : Profile) (judge : (parent : ℕ) → Row → Head → List ℕ → Option Refusal) (t : Element) (ts : Elements) (row : ℕ) (left : Left) (close : ℕ) where
+module _ (profile : Profile) (judge : Judgement) (t : Element) (ts : Elements) (holder : Element) (row : ℕ) (left : Left) (close : ℕ) where
   abbrev after : Sought → Option Refusal
   after q =
       elim q as (λ _. Option Refusal) [
         | never ↦ refuse 3 row (head-of t .at)
         | early first ↦ refuse 4 first (head-of t .at)
-        | found k rest ↦ walk profile judge t row (row-of profile row k) or-else walk-all profile judge ts row rest close
+        | found k rest ↦ walk profile judge t (some holder) row (row-of profile row k) or-else walk-all profile judge ts holder row rest close
       ]
 
-  child-step : {q : Sought} → seek left (head-of t .name) ≡ q → walk-all profile judge (t ∷ᵉ ts) row left close ≡ after q
+  child-step : {q : Sought} → seek left (head-of t .name) ≡ q → walk-all profile judge (t ∷ᵉ ts) holder row left close ≡ after q
   unfolding walk
   child-step e = ap (λ (q : Sought). after q) e
 
 -- The children of a group as entry e that are left, from one on, and the places left for them: the walk goes on with them as it would with all.
-pub record Remaining (profile : Profile) (s tree : List ℕ) (rows places : List (List ℕ)) (judging : Bool) (e row to : ℕ) (h : Head) (ts : Elements) (next from : ℕ) (seen : Bool)
+pub record Remaining (profile : Profile) (s tree : List ℕ) (rows places : List (List ℕ)) (judging : Judging) (e row to : ℕ) (h : Head) (ts : Elements) (next from : ℕ) (seen : Bool)
     (child : ℕ) : Type 0 where
   pub rest : Elements
   pub laid : LaidAll s tree rest child next
   pub from-first : of-entry rows e 4 ≤ from
   pub seen-inside : seen ≡ true → from < to
   pub goes-on :
-      walk-all profile (judgement judging) ts (of-entry rows e 0) (from-here (places-of rows places e)) (h .close) ≡
-      walk-all profile (judgement judging) rest row (places-left rows places from seen to) (h .close)
+      walk-all profile (judgement judging) ts (holding-elements h ts) (of-entry rows e 0) (from-here (places-of rows places e)) (h .close) ≡
+      walk-all profile (judgement judging) rest (holding-elements h ts) row (places-left rows places from seen to) (h .close)
 
 -- The walk among the children of element i as entry e, before a child: what the code has read of both, and what remains.
-pub record Among (s tree : List ℕ) (rows places : List (List ℕ)) (judging : Bool) (i e row to next from : ℕ) (seen : Bool) (child : ℕ) : Type 0 where
+pub record Among (s tree : List ℕ) (rows places : List (List ℕ)) (judging : Judging) (i e row to next from : ℕ) (seen : Bool) (child : ℕ) : Type 0 where
   pub child-behind : i < child
   pub row-is : row ≡ of-entry rows e 0
   pub to-is : to ≡ of-entry rows e 5
@@ -130,7 +142,7 @@ pub record Among (s tree : List ℕ) (rows places : List (List ℕ)) (judging : 
       → Remaining profile s tree rows places judging e row to h ts n from seen child
 
 -- before the first child
-pub group-starts : {s tree : List ℕ} {rows places : List (List ℕ)} {judging : Bool} {i e row to next from : ℕ} → row ≡ of-entry rows e 0 → to ≡ of-entry rows e 5
+pub group-starts : {s tree : List ℕ} {rows places : List (List ℕ)} {judging : Judging} {i e row to next from : ℕ} → row ≡ of-entry rows e 0 → to ≡ of-entry rows e 5
     → from ≡ of-entry rows e 4 → Cell tree i 4 next → Among s tree rows places judging i e row to next from false (i + 1)
 unfolding places-of places-left
 group-starts p q r c =
@@ -144,7 +156,7 @@ group-starts p q r c =
     }
 
 -- one child
-module _ {s tree : List ℕ} {rows places : List (List ℕ)} {judging : Bool} {i e row to next from : ℕ} {seen : Bool} {child : ℕ}
+module _ {s tree : List ℕ} {rows places : List (List ℕ)} {judging : Judging} {i e row to next from : ℕ} {seen : Bool} {child : ℕ}
     (among : Among s tree rows places judging i e row to next from seen child) (inside : child < next) where
   module _ {profile : Profile} (st : Stands profile rows places) {h : Head} {n : ℕ} (entry : Entry s tree i h n) {ts : Elements} (l : LaidAll s tree ts (i + 1) n) where
     abbrev left : Remaining profile s tree rows places judging e row to h ts n from seen child
@@ -157,11 +169,11 @@ module _ {s tree : List ℕ} {rows places : List (List ℕ)} {judging : Bool} {i
     child-entry = entry-of (it .laid)
 
     with-it : {q : Sought} → seek (places-left rows places from seen to) (head-of (it .one) .name) ≡ q
-        → walk-all profile (judgement judging) ts (of-entry rows e 0) (from-here (places-of rows places e)) (h .close)
-        ≡ after profile (judgement judging) (it .one) (it .others) row (places-left rows places from seen to) (h .close) q
+        → walk-all profile (judgement judging) ts (holding-elements h ts) (of-entry rows e 0) (from-here (places-of rows places e)) (h .close)
+        ≡ after profile (judgement judging) (it .one) (it .others) (holding-elements h ts) row (places-left rows places from seen to) (h .close) q
     with-it q =
-        left .goes-on ∙ ap (λ (us : Elements). walk-all profile (judgement judging) us row (places-left rows places from seen to) (h .close)) (it .are) ∙
-        child-step profile (judgement judging) (it .one) (it .others) row (places-left rows places from seen to) (h .close) q
+        left .goes-on ∙ ap (λ (us : Elements). walk-all profile (judgement judging) us (holding-elements h ts) row (places-left rows places from seen to) (h .close)) (it .are) ∙
+        child-step profile (judgement judging) (it .one) (it .others) (holding-elements h ts) row (places-left rows places from seen to) (h .close) q
 
     resolved : ResolvedBetween profile rows places row from to
     resolved k low high =
@@ -174,12 +186,12 @@ module _ {s tree : List ℕ} {rows places : List (List ℕ)} {judging : Bool} {i
       there = seeks profile row s (head-of (it .one)) (it .middle) resolved (left .seen-inside) child-entry
 
       not-there : {at : ℕ} {o : Option Refusal} → ((d p : ℕ) (m : Bool) → q ≡ sought.Found d p m → ⊥) → Cell tree child 0 at → o ≡ unless-found row at q
-          → o ≡ walk-all profile (judgement judging) ts (of-entry rows e 0) (from-here (places-of rows places e)) (h .close)
+          → o ≡ walk-all profile (judgement judging) ts (holding-elements h ts) (of-entry rows e 0) (from-here (places-of rows places e)) (h .close)
       unfolding Seeks unless-found
       not-there {at} {o} none-found c f = go q refl there f
         where
           go : (r : Sought′) → q ≡ r → Seeks profile rows places row (head-of (it .one) .name) (places-left rows places from seen to) from to r → o ≡ unless-found row at r
-              → o ≡ walk-all profile (judgement judging) ts (of-entry rows e 0) (from-here (places-of rows places e)) (h .close)
+              → o ≡ walk-all profile (judgement judging) ts (holding-elements h ts) (of-entry rows e 0) (from-here (places-of rows places e)) (h .close)
           go sought.Never _ sk g = g ∙ rw (at-cell child-entry c) (sym (with-it sk))
           go (sought.Early k) _ sk g = g ∙ rw (at-cell child-entry c) (sym (with-it sk))
           go (sought.Found d p m) r sk g = absurd (none-found d p m r)
@@ -201,18 +213,18 @@ module _ {s tree : List ℕ} {rows places : List (List ℕ)} {judging : Bool} {i
         unfolding Seeks name name-in the-rows instant-changes every-row leaf group group-under bytes
         amount-named k = found-there .2 .name-is ∙ ap name k
 
-        below : walk-all profile (judgement judging) ts (of-entry rows e 0) (from-here (places-of rows places e)) (h .close)
-            ≡ refusal-found f or-else walk-all profile (judgement judging) (it .others) row (places-left rows places p m to) (h .close)
+        below : walk-all profile (judgement judging) ts (holding-elements h ts) (of-entry rows e 0) (from-here (places-of rows places e)) (h .close)
+            ≡ refusal-found f or-else walk-all profile (judgement judging) (it .others) (holding-elements h ts) row (places-left rows places p m to) (h .close)
         unfolding Seeks
         below =
             with-it (found-there .3) ∙
-            ap (λ (r : Row). walk profile (judgement judging) (it .one) row r or-else walk-all profile (judgement judging) (it .others) row (places-left rows places p m to) (h .close))
+            ap (λ (r : Row). walk profile (judgement judging) (it .one) (some (holding-elements h ts)) row r or-else walk-all profile (judgement judging) (it .others) (holding-elements h ts) row (places-left rows places p m to) (h .close))
             (found-there .2 .row-is) ∙
-            ap (λ (o : Option Refusal). o or-else walk-all profile (judgement judging) (it .others) row (places-left rows places p m to) (h .close))
-            (sym (walks profile st (it .one) (it .middle) (it .laid) amount-named))
+            ap (λ (o : Option Refusal). o or-else walk-all profile (judgement judging) (it .others) (holding-elements h ts) row (places-left rows places p m to) (h .close))
+            (sym (walks profile st (it .one) (it .middle) (it .laid) amount-named (some (holding-elements h ts))))
 
         refused : {fault : Fault} → f ≡ Refused fault
-            → refusal-found (Refused fault) ≡ walk-all profile (judgement judging) ts (of-entry rows e 0) (from-here (places-of rows places e)) (h .close)
+            → refusal-found (Refused fault) ≡ walk-all profile (judgement judging) ts (holding-elements h ts) (of-entry rows e 0) (from-here (places-of rows places e)) (h .close)
         unfolding refusal-found _or-else_
         refused g = sym (below ∙ rw g)
 
@@ -245,7 +257,7 @@ module _ {s tree : List ℕ} {rows places : List (List ℕ)} {judging : Bool} {i
           }
 
 -- behind the last child
-pub group-ends : {s tree : List ℕ} {rows places : List (List ℕ)} {judging : Bool} {i e row to next from : ℕ} {seen : Bool} {child : ℕ}
+pub group-ends : {s tree : List ℕ} {rows places : List (List ℕ)} {judging : Judging} {i e row to next from : ℕ} {seen : Bool} {child : ℕ}
     → Among s tree rows places judging i e row to next from seen child → next ≤ child → {close : ℕ} → Cell tree i 3 close
     → (f : Finding) → refusal-found f ≡ ends (places-left rows places from seen to) close → WalksAll s tree rows places judging i e f
 unfolding walk
@@ -254,36 +266,59 @@ group-ends among past c f g profile st h n entry ts l =
     g ∙ rw (close-cell entry c) (sym (left .goes-on ∙ rw (no-sibling (left .laid) (omega (arith, next-cell entry (among .next-is), past)))))
 
 -- element i as entry e, by what the code has read of both
-module _ (s tree : List ℕ) (rows places : List (List ℕ)) (judging : Bool) (parent i e : ℕ) {row longest following : ℕ} (row-is : row ≡ of-entry rows e 0)
-    (longest-is : longest ≡ of-entry rows e 3) (following-is : Cell tree i 4 following) where
-  pub text-in-group : (f : Finding) → following ≤ i + 1 → longest ≡ 0
-      → ((h : Head) (n : ℕ) → Entry s tree i h n → refusal-found f ≡ only-white (of-entry rows e 0) (places-of rows places e) h (between (h .start) (h .close) s))
-      → Walks s tree rows places judging parent i e f
-  unfolding row-at
-  text-in-group f short none-long g profile st _ next (laid-text {h = h} {w = w} entry n w-is) amount =
-      g h _ entry ∙ ap (only-white (of-entry rows e 0) (places-of rows places e) h) (sym w-is) ∙
-      sym (walk-white profile (judgement judging) parent (row-at rows places e) h w _ (holds-places rows places e (sym longest-is ∙ none-long)))
-  text-in-group f short none-long g profile st _ next (laid-elements entry more all) amount = absurd (omega (arith, next-cell entry following-is))
+module _ (s tree : List ℕ) (rows places : List (List ℕ)) (judging : Judging) (parent i e : ℕ) {row : ℕ} (row-is : row ≡ of-entry rows e 0) where
+  -- its row is withdrawn
+  pub withdrawn : {at : ℕ} → among row (withdrawn-by judging) ≡ true → Cell tree i 0 at → Walks s tree rows places judging parent i e (Refused (Withdrawn row at))
+  unfolding row-at refusal-found refusal-of numbered refuse head-of
+  withdrawn w at-is profile st _ next (laid-text {h = h} {w = v} entry n w-is) amount holder =
+      rw (row-is, at-cell entry at-is)
+      (sym (walk-refused-text profile (judgement judging) holder parent (row-at rows places e) h v
+      (withdrawn-refused judging holder parent (row-at rows places e) (holding-text h v) (rw (← row-is) w))))
+  withdrawn w at-is profile st _ next (laid-elements {h = h} {ts = ts} entry more all) amount holder =
+      rw (row-is, at-cell entry at-is)
+      (sym (walk-refused-elements profile (judgement judging) holder parent (row-at rows places e) h ts
+      (withdrawn-refused judging holder parent (row-at rows places e) (holding-elements h ts) (rw (← row-is) w))))
 
-  pub text-in-leaf : (f : Finding) → following ≤ i + 1 → (longest ≡ 0 → ⊥) → Judged s tree judging parent i row longest f → Walks s tree rows places judging parent i e f
-  unfolding row-at head-of longest-of
-  text-in-leaf f short long g profile st _ next (laid-text {h = h} {w = w} entry n w-is) amount =
-      let holds = holds-text rows places e (λ z. long (longest-is ∙ z)) in
-      g (row-at rows places e) h _ entry (sym row-is) (ap longest-of holds ∙ sym longest-is) (λ k. amount (sym row-is ∙ k)) ∙
-      ap (judgement judging parent (row-at rows places e) h) (sym w-is) ∙
-      sym (walk-leaf profile (judgement judging) parent (row-at rows places e) h w _ holds)
-  text-in-leaf f short long g profile st _ next (laid-elements entry more all) amount = absurd (omega (arith, next-cell entry following-is))
+  -- it is not, and the judgement is of what a leaf holds
+  module _ {longest following : ℕ} (longest-is : longest ≡ of-entry rows e 3) (following-is : Cell tree i 4 following) (stays : among row (withdrawn-by judging) ≡ false) where
+    row-stays : among (row-at rows places e .row) (withdrawn-by judging) ≡ false
+    unfolding row-at
+    row-stays = rw (← row-is) stays
 
-  pub elements-in-group : (f : Finding) → i + 1 < following → longest ≡ 0 → WalksAll s tree rows places judging i e f → Walks s tree rows places judging parent i e f
-  unfolding row-at
-  elements-in-group f many none-long g profile st _ next (laid-text entry n w-is) amount = absurd (omega (arith, next-cell entry following-is))
-  elements-in-group f many none-long g profile st _ next (laid-elements {h = h} {ts = ts} entry more all) amount =
-      g profile st h _ entry ts all ∙
-      sym (walk-group profile (judgement judging) parent (row-at rows places e) h ts _ (holds-places rows places e (sym longest-is ∙ none-long)))
+    pub text-in-group : (f : Finding) → following ≤ i + 1 → longest ≡ 0
+        → ((h : Head) (n : ℕ) → Entry s tree i h n → refusal-found f ≡ only-white (of-entry rows e 0) (places-of rows places e) h (between (h .start) (h .close) s))
+        → Walks s tree rows places judging parent i e f
+    unfolding row-at
+    text-in-group f short none-long g profile st _ next (laid-text {h = h} {w = w} entry n w-is) amount holder =
+        let holds = holds-places rows places e (sym longest-is ∙ none-long) in
+        g h _ entry ∙ ap (only-white (of-entry rows e 0) (places-of rows places e) h) (sym w-is) ∙
+        sym (walk-white profile (judgement judging) holder parent (row-at rows places e) h w _ holds
+        (group-judged judging holder parent (row-at rows places e) row-stays (holding-text h w) _ holds))
+    text-in-group f short none-long g profile st _ next (laid-elements entry more all) amount holder = absurd (omega (arith, next-cell entry following-is))
 
-  pub elements-in-leaf : {at : ℕ} → i + 1 < following → (longest ≡ 0 → ⊥) → Cell tree (i + 1) 0 at → Walks s tree rows places judging parent i e (Refused (NotAllowedThere row at))
-  unfolding row-at refusal-found refusal-of numbered refuse
-  elements-in-leaf many long at-is profile st _ next (laid-text entry n w-is) amount = absurd (omega (arith, next-cell entry following-is))
-  elements-in-leaf many long at-is profile st _ next (laid-elements {h = h} {ts = ts} entry more all) amount =
-      rw (row-is, first-child (h .start) all more at-is)
-      (sym (walk-in-leaf profile (judgement judging) parent (row-at rows places e) h ts _ (holds-text rows places e (λ z. long (longest-is ∙ z)))))
+    pub text-in-leaf : (f : Finding) → following ≤ i + 1 → (longest ≡ 0 → ⊥) → Judged (at-text judging) s tree parent i row longest f
+        → Walks s tree rows places judging parent i e f
+    unfolding row-at head-of longest-of
+    text-in-leaf f short long g profile st _ next (laid-text {h = h} {w = w} entry n w-is) amount holder =
+        let holds = holds-text rows places e (λ z. long (longest-is ∙ z)) in
+        g (row-at rows places e) h _ entry (sym row-is) (ap longest-of holds ∙ sym longest-is) (λ k. amount (sym row-is ∙ k)) ∙
+        ap (at-text judging parent (row-at rows places e) h) (sym w-is) ∙
+        sym (walk-leaf profile (judgement judging) holder parent (row-at rows places e) h w _ holds
+        (leaf-judged judging holder parent (row-at rows places e) row-stays h w _ holds))
+    text-in-leaf f short long g profile st _ next (laid-elements entry more all) amount holder = absurd (omega (arith, next-cell entry following-is))
+
+    pub elements-in-group : (f : Finding) → i + 1 < following → longest ≡ 0 → WalksAll s tree rows places judging i e f → Walks s tree rows places judging parent i e f
+    unfolding row-at
+    elements-in-group f many none-long g profile st _ next (laid-text entry n w-is) amount holder = absurd (omega (arith, next-cell entry following-is))
+    elements-in-group f many none-long g profile st _ next (laid-elements {h = h} {ts = ts} entry more all) amount holder =
+        g profile st h _ entry ts all ∙
+        sym (walk-group profile (judgement judging) holder parent (row-at rows places e) h ts _ (holds-places rows places e (sym longest-is ∙ none-long))
+        (elements-judged judging holder parent (row-at rows places e) row-stays h ts))
+
+    pub elements-in-leaf : {at : ℕ} → i + 1 < following → (longest ≡ 0 → ⊥) → Cell tree (i + 1) 0 at → Walks s tree rows places judging parent i e (Refused (NotAllowedThere row at))
+    unfolding row-at refusal-found refusal-of numbered refuse
+    elements-in-leaf many long at-is profile st _ next (laid-text entry n w-is) amount holder = absurd (omega (arith, next-cell entry following-is))
+    elements-in-leaf many long at-is profile st _ next (laid-elements {h = h} {ts = ts} entry more all) amount holder =
+        rw (row-is, first-child (h .start) all more at-is)
+        (sym (walk-in-leaf profile (judgement judging) holder parent (row-at rows places e) h ts _ (holds-text rows places e (λ z. long (longest-is ∙ z)))
+        (elements-judged judging holder parent (row-at rows places e) row-stays h ts)))

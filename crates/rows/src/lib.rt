@@ -1,8 +1,9 @@
-// The walk of refusals 3 and 4 over the laid-out tree of a message, and the same walk with the judgement of 6 to 8 at the leaves. The rows are a profile in
-// numbers (crates/rows_places/specs/Numbers.antt); every function but `rows_refusal` is for any such profile.
+// The walk of refusals 3 and 4 over the laid-out tree of a message, and the same walk with the judgement of 6 to 8 and 28 at each element. The rows are a profile in
+// numbers (crates/rows_places/specs/Numbers.antt); every function but `judging_of` and `rows_refusal` is for any such profile.
 use paper::Fault;
 use paper::Finding;
 use paper::Profile;
+use rows_contents::Judging;
 use rows_places::Places;
 use rows_places::Rows;
 use rows_places::Sought;
@@ -10,7 +11,7 @@ use tree::Tree;
 ghost use Prim.Native.Nat.{_<_};
 ghost use mathlib.Core.Path.{_≡_};
 ghost use Rattle.paper.specs.Answers.{refusal-found};
-ghost use Rattle.rows.specs.Walk.{WalkPromise, Walks, WalksAll, unless-found};
+ghost use Rattle.rows.specs.Walk.{JudgesFor, WalkPromise, Walks, WalksAll, unless-found};
 
 // Element i as entry e, under a parent's row.
 fn element(
@@ -18,7 +19,7 @@ fn element(
     tree: &Tree,
     rows: &Rows,
     places: &Places,
-    judging: bool,
+    judging: Judging,
     parent: usize,
     i: usize,
     e: u16,
@@ -30,6 +31,12 @@ fn element(
     }
     let row = tree::wide(rows_places::of_entry(rows, e, 0));
     let longest = tree::wide(rows_places::of_entry(rows, e, 3));
+    if rows_contents::is_withdrawn(judging, row) {
+        return Finding::Refused(Fault::Withdrawn {
+            element: row,
+            offset: tree::cell(tree, i, 0),
+        });
+    }
     if tree::cell(tree, i, 4) <= i + 1 {
         if longest == 0 {
             return rows_contents::text_in_group(s, tree, rows, places, i, e);
@@ -68,7 +75,7 @@ fn children(
     tree: &Tree,
     rows: &Rows,
     places: &Places,
-    judging: bool,
+    judging: Judging,
     i: usize,
     e: u16,
 ) -> Finding
@@ -101,7 +108,17 @@ fn children(
     rows_contents::ended(rows, places, from, further, to, tree::cell(tree, i, 3))
 }
 
-// The walk over the rows of a profile, from the root, which is a group: 3 and 4, or, where it is judging, 6 to 8 as well. (`element` has one caller, so the compiler makes one function
+// What the walk judges: where it is judging, 6 to 8, and 28 in a new message.
+fn judging_of(profile: Profile, judging: bool) -> Judging
+    ensures { λ r. ⌜ JudgesFor profile judging r ⌝ }
+{
+    if judging {
+        return rows_contents::of_values(profile.archived);
+    }
+    Judging::Rows
+}
+
+// The walk over the rows of a profile, from the root, which is a group: 3 and 4, or, where it is judging, 6 to 8 and 28 as well. (`element` has one caller, so the compiler makes one function
 // of it and `children`, and a leaf is judged without a call.)
 pub fn rows_refusal(profile: Profile, s: &[u8], tree: &Tree, judging: bool) -> Finding
     ensures { λ r. ⌜ WalkPromise profile (now (s .entry)) (now (tree .entry)) judging r ⌝ }
@@ -111,5 +128,5 @@ pub fn rows_refusal(profile: Profile, s: &[u8], tree: &Tree, judging: bool) -> F
     if tree::cell(tree, 0, 4) <= 1 {
         return rows_contents::text_in_group(s, tree, &rows, &places, 0, 0);
     }
-    children(s, tree, &rows, &places, judging, 0, 0)
+    children(s, tree, &rows, &places, judging_of(profile, judging), 0, 0)
 }

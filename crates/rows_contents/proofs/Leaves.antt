@@ -12,7 +12,7 @@ use Rattle.paper.specs.Bytes.{if_then_else_, bytes, white, value-character, Eve
 use Rattle.paper.specs.Form.{Head}
 use Rattle.paper.specs.Rows.{Place, Row, longest-of}
 use Rattle.paper.specs.Values.{right-for, lies-from, allowed}
-use Rattle.paper.specs.Refusals.{Left, from-here, missing, Refusal, refuse, first-not, ends, only-white, leaf-refusal}
+use Rattle.paper.specs.Refusals.{Left, from-here, missing, Refusal, refuse, first-not, ends, only-white, text-refusal}
 use Rattle.paper.proofs.Laws.{number-of, offset-of}
 use Rattle.leaf_texts.proofs.Laws.{none-first, one-first}
 use Rattle.tree.specs.Laid.{between, Entry}
@@ -76,13 +76,13 @@ unfolding allowed right-for
 any-currency parent row c d w n = rw (ne-eqb row 42 n)
 
 leaf-any : (parent : ℕ) (r : Row) (h : Head) (c w : List ℕ) → (r .row ≡ 42 → ⊥)
-    → leaf-refusal parent r h w ≡ leaf-refusal parent r (record { name = h .name; currency = c; at = h .at; start = h .start; close = h .close }) w
-unfolding leaf-refusal
+    → text-refusal parent r h w ≡ text-refusal parent r (record { name = h .name; currency = c; at = h .at; start = h .start; close = h .close }) w
+unfolding text-refusal
 leaf-any parent r h c w n = rw (any-currency parent (r .row) (h .currency) c w n)
 
 -- refusal 7 is at the first character that is not in the set
-seven-first : (parent : ℕ) (r : Row) (h : Head) (w : List ℕ) (row k : ℕ) → leaf-refusal parent r h w ≡ refuse 7 row (h .start + k) → k ≡ first-not value-character w
-unfolding leaf-refusal refuse number-of offset-of
+seven-first : (parent : ℕ) (r : Row) (h : Head) (w : List ℕ) (row k : ℕ) → text-refusal parent r h w ≡ refuse 7 row (h .start + k) → k ≡ first-not value-character w
+unfolding text-refusal refuse number-of offset-of
 seven-first parent r h w row k e =
     go (not (lies-from 1 (longest-of (r .holds)) (length w))) (not (every value-character w)) (not (allowed parent (r .row) (h .currency) w)) e
   where
@@ -94,7 +94,7 @@ seven-first parent r h w row k e =
     go false false true e = absurd (omega (arith, ap number-of e))
     go false false false e = absurd (omega (arith, ap number-of e))
 
-pub within-message : (parent row : ℕ) (r : Row) (h : Head) (s : List ℕ) (k : ℕ) → leaf-refusal parent r h (between (h .start) (h .close) s) ≡ told row h (NotInTheSet k)
+pub within-message : (parent row : ℕ) (r : Row) (h : Head) (s : List ℕ) (k : ℕ) → text-refusal parent r h (between (h .start) (h .close) s) ≡ told row h (NotInTheSet k)
     → k ≤ length s
 unfolding told
 within-message parent row r h s k e =
@@ -113,15 +113,15 @@ told-any row h c NotAllowed = refl
 -- a leaf in the message, judged by its text and, where it is of row 42, its currency
 module _ {s tree : List ℕ} {i next parent row longest : ℕ} (r : Row) (h : Head) (entry : Entry s tree i h next) (row-is : r .row ≡ row)
     (longest-is : longest-of (r .holds) ≡ longest) (named : row ≡ 42 → h .name ≡ bytes "InstdAmt") {c : List ℕ} (currency-is : h .name ≡ bytes "InstdAmt" → c ≡ h .currency) where
-  judged-text : (j : Judgement) → Judges parent row longest c (between (h .start) (h .close) s) j → leaf-refusal parent r h (between (h .start) (h .close) s) ≡ told row h j
+  judged-text : (j : Judgement) → Judges parent row longest c (between (h .start) (h .close) s) j → text-refusal parent r h (between (h .start) (h .close) s) ≡ told row h j
   judged-text j d = go (eqb row 42) refl
     where
-      go : (b : Bool) → eqb row 42 ≡ b → leaf-refusal parent r h (between (h .start) (h .close) s) ≡ told row h j
+      go : (b : Bool) → eqb row 42 ≡ b → text-refusal parent r h (between (h .start) (h .close) s) ≡ told row h j
       go true q = d .judged r h row-is longest-is (sym (currency-is (named (eqb-true row 42 q))))
       go false q =
           leaf-any parent r h c (between (h .start) (h .close) s) (λ f. eqb-false row 42 q (sym row-is ∙ f)) ∙
           d .judged (r) (record { name = h .name; currency = c; at = h .at; start = h .start; close = h .close }) row-is longest-is refl ∙ told-any row h c j
 
   pub judged-as : {known : ℕ} {t : List ℕ} {j k : Judgement} → Cell tree i 5 known → t ≡ between (h .start) (h .close) s
-      → ((known ≡ 3 → Every value-character t) → Judges parent row longest c t j) → j ≡ k → leaf-refusal parent r h (between (h .start) (h .close) s) ≡ told row h k
+      → ((known ≡ 3 → Every value-character t) → Judges parent row longest c t j) → j ≡ k → text-refusal parent r h (between (h .start) (h .close) s) ≡ told row h k
   judged-as {k = k} known-is text-is judges told-as = judged-text k (rw (text-is, told-as) at (judges (values-there entry text-is known-is)))

@@ -1,4 +1,4 @@
-// What an element holds that has no elements in it: white space in a group, and the judgement of 6 to 8 at a leaf.
+// What is judged of an element before what it holds, and what an element holds that has no elements in it: white space in a group, and the judgement of 6 to 8 at a leaf.
 use leaf_values::Judgement;
 use paper::Fault;
 use paper::Finding;
@@ -7,16 +7,46 @@ use rows_places::Places;
 use rows_places::Rows;
 use tree::Tree;
 ghost use mathlib.Core.Path.{_≡_};
-ghost use mathlib.Core.Bool.{true};
+ghost use mathlib.Core.List.{[], _∷_};
 ghost use Prim.Native.Nat.{ℕ, _+_, _≤_, _<_};
 ghost use lib.ListN.{length};
-ghost use Rattle.paper.specs.Bytes.{white, Every};
+ghost use Rattle.paper.specs.Bytes.{if_then_else_, white, Every};
 ghost use Rattle.paper.specs.Form.{Head};
-ghost use Rattle.paper.specs.Refusals.{refuse, ends, only-white, first-not};
+ghost use Rattle.paper.specs.Values.{among};
+ghost use Rattle.paper.specs.Refusals.{refuse, ends, only-white, first-not, text-refusal, value-refusal};
 ghost use Rattle.paper.specs.Answers.{refusal-found};
 ghost use Rattle.tree.specs.Laid.{between, Entry};
 ghost use Rattle.rows_places.specs.Numbers.{of-entry, places-left, places-of};
-ghost use Rattle.rows_contents.specs.Judged.{Judged};
+ghost use Rattle.rows_contents.specs.Judged.{withdrawn-by, at-text, judgement, Judged};
+
+// What a walk judges of each element: nothing, for 3 and 4; 6 to 8, in an archived message; or 6 to 8 and 28, in a new one, of which a row is withdrawn.
+pub enum Judging {
+    Rows,
+    ArchivedValues,
+    NewValues,
+}
+
+const WITHDRAWN: usize = 32;
+
+// What the walk for 6 to 8 and 28 judges.
+pub fn of_values(archived: bool) -> Judging
+    ensures { λ r. ⌜ judgement r ≡ value-refusal (if archived then [] else 32 ∷ []) ⌝ }
+{
+    if archived {
+        return Judging::ArchivedValues;
+    }
+    Judging::NewValues
+}
+
+// Whether an element of this row is refused by 28.
+pub fn is_withdrawn(judging: Judging, row: usize) -> bool
+    ensures { λ r. ⌜ r ≡ among row (withdrawn-by judging) ⌝ }
+{
+    if let Judging::NewValues = judging {
+        return row == WITHDRAWN;
+    }
+    false
+}
 
 // The place of the first byte that is not white space; the length where there is none. Where it is known that the text is white space alone
 // (1, crates/tree/specs/Laid.antt), it is not read again.
@@ -98,7 +128,7 @@ fn outside(s: &[u8], row: usize, start: usize, behind: usize) -> Finding
 
 // 6 to 8 at element i as a leaf of this row.
 fn judged(s: &[u8], tree: &Tree, parent: usize, i: usize, row: usize, longest: usize) -> Finding
-    ensures { λ r. ⌜ Judged (now (s .entry)) (now (tree .entry)) true parent i row longest r ⌝ }
+    ensures { λ r. ⌜ Judged text-refusal (now (s .entry)) (now (tree .entry)) parent i row longest r ⌝ }
 {
     let at = tree::cell(tree, i, 0);
     let judgement = leaf_values::leaf(
@@ -127,16 +157,16 @@ fn judged(s: &[u8], tree: &Tree, parent: usize, i: usize, row: usize, longest: u
 pub fn leaf(
     s: &[u8],
     tree: &Tree,
-    judging: bool,
+    judging: Judging,
     parent: usize,
     i: usize,
     row: usize,
     longest: usize,
 ) -> Finding
-    ensures { λ r. ⌜ Judged (now (s .entry)) (now (tree .entry)) judging parent i row longest r ⌝ }
+    ensures { λ r. ⌜ Judged (at-text judging) (now (s .entry)) (now (tree .entry)) parent i row longest r ⌝ }
 {
-    if judging {
-        return judged(s, tree, parent, i, row, longest);
+    if let Judging::Rows = judging {
+        return Finding::Nothing;
     }
-    Finding::Nothing
+    judged(s, tree, parent, i, row, longest)
 }

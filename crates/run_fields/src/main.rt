@@ -1,4 +1,5 @@
-// Runs `verdict_reader::field` and `move_regrouping::differing` over the file `cases`, and writes for each answer the length and the bytes of what is handed back.
+// Runs `verdict_reader::field` and `move_regrouping::differing` over the files `cases` and `archived`, and writes for each answer the length and the bytes of what is handed back.
+// Messages of the second file, and the first ones of its regroupings, are archived.
 // A case is `F` with name, profile (1 is the instant one), payment, first and last field and message, which asks for each of these fields; or `D` with name, profile, first, second
 // and list, which asks for the second regrouped from the first and for the first regrouped from the second; and a line feed.
 use paper::Profile;
@@ -37,23 +38,23 @@ fn each_field(
     }
 }
 
-fn profile_of(number: usize) -> Profile {
+fn profile_of(number: usize, archived: bool) -> Profile {
     Profile {
         instant: number == 1,
+        archived,
     }
 }
 
-// The fields that the case at an offset asks for. Answers the offset of the next case.
-fn fields_at(s: &[u8], name: &[u8], at: usize) -> usize {
-    let number = run_frames::number_at(s, at);
-    let payment = run_frames::number_at(s, number.next);
+// The fields of the message at an offset, from the first to the last that are asked for. Answers the offset of the next case.
+fn fields_of(profile: Profile, s: &[u8], name: &[u8], at: usize) -> usize {
+    let payment = run_frames::number_at(s, at);
     let first = run_frames::number_at(s, payment.next);
     let last = run_frames::number_at(s, first.next);
     let message = run_frames::part_at(s, last.next);
     let a = message.start;
     let b = message.end;
     each_field(
-        profile_of(number.value),
+        profile,
         name,
         &s[a..b],
         payment.value,
@@ -61,6 +62,12 @@ fn fields_at(s: &[u8], name: &[u8], at: usize) -> usize {
         last.value,
     );
     b + 2
+}
+
+// The fields that the case at an offset asks for. Answers the offset of the next case.
+fn fields_at(archived: bool, s: &[u8], name: &[u8], at: usize) -> usize {
+    let number = run_frames::number_at(s, at);
+    fields_of(profile_of(number.value, archived), s, name, number.next)
 }
 
 fn regrouping_line(
@@ -105,13 +112,13 @@ fn each_way(profile: Profile, s: &[u8], name: &[u8], at: usize) -> usize {
 }
 
 // The regroupings that the case at an offset asks for. Answers the offset of the next case.
-fn regroupings_at(s: &[u8], name: &[u8], at: usize) -> usize {
+fn regroupings_at(archived: bool, s: &[u8], name: &[u8], at: usize) -> usize {
     let number = run_frames::number_at(s, at);
-    each_way(profile_of(number.value), s, name, number.next)
+    each_way(profile_of(number.value, archived), s, name, number.next)
 }
 
 // The case at an offset. Answers the offset of the next.
-fn case_at(s: &[u8], at: usize) -> usize
+fn case_at(archived: bool, s: &[u8], at: usize) -> usize
     requires { ⌜ at < length (now s) ⌝ }
 {
     let kind = s[at];
@@ -119,19 +126,19 @@ fn case_at(s: &[u8], at: usize) -> usize
     let a = name.start;
     let b = name.end;
     if kind == b'D' {
-        return regroupings_at(s, &s[a..b], b + 1);
+        return regroupings_at(archived, s, &s[a..b], b + 1);
     }
-    fields_at(s, &s[a..b], b + 1)
+    fields_at(archived, s, &s[a..b], b + 1)
 }
 
-fn run(s: &[u8]) {
+fn run(archived: bool, s: &[u8]) {
     let mut at = 0;
     let mut turns: u32 = 10000;
     while turns > 0 {
         if at >= s.len() {
             return;
         }
-        at = case_at(s, at);
+        at = case_at(archived, s, at);
         turns -= 1;
     }
 }
@@ -139,5 +146,7 @@ fn run(s: &[u8]) {
 fn main() {
     let mut buffer = [0u8; 262144];
     let n = run_frames::load(b"cases", &mut buffer);
-    run(&buffer[..n]);
+    run(false, &buffer[..n]);
+    let m = run_frames::load(b"archived", &mut buffer);
+    run(true, &buffer[..m]);
 }

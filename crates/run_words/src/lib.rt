@@ -8,38 +8,52 @@ pub struct Understood {
     pub profile: Profile,
 }
 
-// Word i is `instant`, where that may be said; any other is said on standard error.
-fn is_instant(i: usize, may_be: bool) -> bool {
-    let mut word = io::buffer();
-    let n = os::arg(i, &mut word);
-    if may_be {
-        if leaf_texts::same(&word[..n], b"instant") {
-            return true;
+// What a word says.
+enum Said {
+    Instant,
+    Archived,
+    Unknown,
+}
+
+// Word i: `archived`, or `instant` where that may be said; any other is said on standard error.
+fn word(i: usize, may_name: bool) -> Said {
+    let mut text = io::buffer();
+    let n = os::arg(i, &mut text);
+    if leaf_texts::same(&text[..n], b"archived") {
+        return Said::Archived;
+    }
+    if may_name {
+        if leaf_texts::same(&text[..n], b"instant") {
+            return Said::Instant;
         }
     }
     io::write_all(STDERR_FILENO, b"this word is not known: ");
-    io::write_all(STDERR_FILENO, &word[..n]);
+    io::write_all(STDERR_FILENO, &text[..n]);
     io::write_all(STDERR_FILENO, b"\n");
-    false
+    Said::Unknown
 }
 
-// The profile that a program reads in by itself, or the instant one where its words may and do name it.
+// The profile that a program reads in by itself, or the instant one where its words may and do name it. The message is archived where they say so.
 pub fn asked(own: Profile, may_name: bool) -> Understood {
     let count = os::arg_count();
     let mut instant = own.instant;
+    let mut archived = own.archived;
     let mut i = 1;
     while i < count {
-        if !is_instant(i, may_name) {
-            return Understood {
-                known: false,
-                profile: own,
-            };
+        match word(i, may_name) {
+            Said::Instant => instant = true,
+            Said::Archived => archived = true,
+            Said::Unknown => {
+                return Understood {
+                    known: false,
+                    profile: own,
+                };
+            }
         }
-        instant = true;
         i += 1;
     }
     Understood {
         known: true,
-        profile: Profile { instant },
+        profile: Profile { instant, archived },
     }
 }

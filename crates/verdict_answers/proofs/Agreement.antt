@@ -9,7 +9,7 @@ use Rattle.paper.specs.Refusals.{Refusal, MessageAnswer, refused, accepted}
 use Rattle.paper.specs.Regrouping.{RegroupingAnswer, message-refused, answered}
 use Rattle.paper.specs.Answers.{numbered, refusal-of, refusal-found, verdict-says, regrouping-says}
 use Rattle.paper.specs.declared.Fault.{Fault}
-use Rattle.paper.specs.declared.Fault.the-variants.{TableTooShort, MessageTooLong, NotOfTheForm, NotAllowedThere, Missing, TooMany, EmptyOrTooLong, CharacterNotInTheSet, ValueNotAllowed, InPaymentAndBlock, InNeither, BlockIdRepeated, TotalTooLarge, CountDiffers, SumDiffers}
+use Rattle.paper.specs.declared.Fault.the-variants.{TableTooShort, MessageTooLong, NotOfTheForm, NotAllowedThere, Missing, TooMany, EmptyOrTooLong, CharacterNotInTheSet, ValueNotAllowed, Withdrawn, InPaymentAndBlock, InNeither, BlockIdRepeated, TotalTooLarge, CountDiffers, SumDiffers}
 use Rattle.paper.specs.declared.Finding.{Finding}
 use Rattle.paper.specs.declared.Finding.the-variants as finding
 use Rattle.paper.specs.declared.Verdict.{Verdict}
@@ -33,6 +33,7 @@ fault-by number element offset =
     if eqb number 6 then EmptyOrTooLong element offset else
     if eqb number 7 then CharacterNotInTheSet element offset else
     if eqb number 8 then ValueNotAllowed element offset else
+    if eqb number 28 then Withdrawn element offset else
     if eqb number 9 then InPaymentAndBlock element offset else
     if eqb number 10 then InNeither offset else
     if eqb number 11 then BlockIdRepeated offset else
@@ -50,6 +51,7 @@ fault-again (TooMany element offset) = refl
 fault-again (EmptyOrTooLong element offset) = refl
 fault-again (CharacterNotInTheSet element offset) = refl
 fault-again (ValueNotAllowed element offset) = refl
+fault-again (Withdrawn element offset) = refl
 fault-again (InPaymentAndBlock element offset) = refl
 fault-again (InNeither offset) = refl
 fault-again (BlockIdRepeated offset) = refl
@@ -85,6 +87,7 @@ no-zero (TooMany e o) = refl
 no-zero (EmptyOrTooLong e o) = refl
 no-zero (CharacterNotInTheSet e o) = refl
 no-zero (ValueNotAllowed e o) = refl
+no-zero (Withdrawn e o) = refl
 no-zero (InPaymentAndBlock e o) = refl
 no-zero (InNeither o) = refl
 no-zero (BlockIdRepeated o) = refl

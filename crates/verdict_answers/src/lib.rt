@@ -36,6 +36,7 @@ pub fn refusal_of(fault: Fault) -> Refusal
         Fault::EmptyOrTooLong { element, offset } => at(6, element, offset),
         Fault::CharacterNotInTheSet { element, offset } => at(7, element, offset),
         Fault::ValueNotAllowed { element, offset } => at(8, element, offset),
+        Fault::Withdrawn { element, offset } => at(28, element, offset),
         Fault::InPaymentAndBlock { element, offset } => at(9, element, offset),
         Fault::InNeither { offset } => at(10, 16, offset),
         Fault::BlockIdRepeated { offset } => at(11, 11, offset),

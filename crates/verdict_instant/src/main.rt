@@ -1,8 +1,12 @@
-// The verdict on the message on standard input, in the instant profile.
+// The verdict on the message on standard input, in the instant profile. Started with the word `archived` it reads the message as an archived one.
 use paper::Profile;
 
 fn main() {
-    let asked = run_words::asked(Profile { instant: true }, false);
+    let own = Profile {
+        instant: true,
+        archived: false,
+    };
+    let asked = run_words::asked(own, false);
     if asked.known {
         run_verdict::on_input(asked.profile);
     }

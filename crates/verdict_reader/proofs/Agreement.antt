@@ -1,4 +1,4 @@
--- The promises of the reader determine its answers; and demands 1 and 2 as the promise of `verdict` has them, in either profile (crates/paper_acceptance/proofs/Proper.antt,
+-- The promises of the reader determine its answers; and demands 1 and 2 as the promise of `verdict` has them, in whichever profile is named (crates/paper_acceptance/proofs/Proper.antt,
 -- `named-proper`).
 use Prim.Native.Nat.{ℕ, _≤_}
 use mathlib.Core.List.{List, List·Memᴰ}

@@ -15,7 +15,7 @@ use Rattle.paper.specs.Rows.{Row, text, leaf, Profile, longest-of}
 use Rattle.paper.specs.Values.{among, lies-from, digits, count, money, amount, cents, right-for, spaces-alone, allowed}
 use Rattle.paper.specs.Payments.{Payment, text-of, follow, of-header, payments}
 use Rattle.paper.specs.Refusals.{values-refusal, among-texts}
-use Rattle.paper.specs.Accepted.{All, RightText}
+use Rattle.paper.specs.Accepted.{All, RightText, RightElement}
 use Rattle.paper.proofs.Laws.{both, both-left, both-right, all-map}
 use Rattle.paper_acceptance.proofs.Proper.{Proper, root-route, block-route}
 use Rattle.paper_acceptance.proofs.Present.{PaymentAs}
@@ -58,7 +58,7 @@ unfolding leaf
 holds-of row name longest e = ap (λ (r : Row). r .holds) e
 
 module _ {profile : Profile} (proper : Proper profile) where
-  amount-of-payment : (p : Payment) → PaymentAs profile proper RightText p → (u : Element) → follow (41 ∷ 42 ∷ []) (p .own) ≡ some u → amount (text-of u) ≡ true
+  amount-of-payment : (p : Payment) → PaymentAs profile proper (RightElement (profile .withdrawn)) p → (u : Element) → follow (41 ∷ 42 ∷ []) (p .own) ≡ some u → amount (text-of u) ≡ true
   amount-of-payment p c u e = amount-read (known (proper .amount-is) (amount-right profile proper (p .own) (c .own-as) 18 u (holds-of _ _ _ (proper .amount-is)) e))
 
   in-block : (b : Element) → RightAs profile proper 2 10 b → ReadBlock b

@@ -28,7 +28,7 @@ pub record Placed (s tree order : List ℕ) (root : Element) (b p c : ℕ) : Typ
   pub readable : Readable root
   pub fitting : All Fitting (payments root)
 
--- the stages from one on: from 21, from 6 to 8
+-- the stages from one on: from 21, from 6 to 8 and 28
 abbrev pub from-total : Element → Option Refusal
 from-total root = total-refusal root or-else counts-refusal root
 

@@ -46,7 +46,7 @@ fn sums(s: &[u8], tree: &Tree, order: &Order, blocks: usize, payments: usize) ->
     }
 }
 
-// 6 to 8, as a walk over the rows found them; then 9 and 10, 11, and what follows.
+// 6 to 8 and 28, as a walk over the rows found them; then 9 and 10, 11, and what follows.
 fn judged(
     s: &[u8],
     tree: &Tree,
@@ -94,7 +94,7 @@ fn of_rows(fault: Fault) -> bool
     refusal.number < 5
 }
 
-// 3 and 4, and what follows. The walk for 6 to 8 finds those of 3 and 4 as well. What it finds of 6 to 8 waits until another walk has found none of 3 and 4,
+// 3 and 4, and what follows. The walk for 6 to 8 and 28 finds those of 3 and 4 as well. What it finds of its own waits until another walk has found none of 3 and 4,
 // which come first wherever they stand.
 fn stages(profile: Profile, s: &[u8], tree: &Tree, order: &mut Order) -> Verdict
     ensures { λ r. ⌜ ((root : Element) → LaidAt (now (s .entry)) (now (tree .entry)) 0 root → 208 ≤ length (now (order .entry))

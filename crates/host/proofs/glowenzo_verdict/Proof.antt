@@ -11,7 +11,7 @@ of-message-requires : tie.Need-of-message-requires
 of-message-requires c κs = search needs
 
 returns : tie.Need-returns
-returns c = too-short _ (now (c .before .before .before .before .args .message)) (now (c .before .before .before .before .args .table)) (c .before .if1 .taken) (c .of-message .ensures)
+returns c = too-short _ _ (now (c .before .before .before .before .args .message)) (now (c .before .before .before .before .args .table)) (c .before .if1 .taken) (c .of-message .ensures)
 
 profile-of-requires : tie.Need-profile-of-requires
 profile-of-requires c κs = search needs
@@ -35,7 +35,7 @@ slice-aggregate-write : tie.Need-slice-aggregate-write
 slice-aggregate-write c = search needs
 
 mul-write : tie.Need-mul-write
-mul-write c = record { fits = omega (arith, room _ (now (c .before .before .before .before .before .before .before .before .before .before .before .args .message)) (now (c .before .before .before .before .before .before .before .before .before .before .before .args .table)) (c .before .before .before .before .before .before .before .before .if1 .left) (omega (arith, length-replicate {A = ℕ} 1024 0)) (in-profile _ (c .before .before .before .before .before .before .before .profile-of .ensures) (c .before .before .before .before .before .verdict .ensures)) (c .before .before .found2 .given .1) (c .before .before .before .before .numbers2 .given)) }
+mul-write c = record { fits = omega (arith, room _ _ (now (c .before .before .before .before .before .before .before .before .before .before .before .args .message)) (now (c .before .before .before .before .before .before .before .before .before .before .before .args .table)) (c .before .before .before .before .before .before .before .before .if1 .left) (omega (arith, length-replicate {A = ℕ} 1024 0)) (in-profile _ _ (c .before .before .before .before .before .before .before .profile-of .ensures) (c .before .before .before .before .before .verdict .ensures)) (c .before .before .found2 .given .1) (c .before .before .before .before .numbers2 .given)) }
 
 write-requires : tie.Need-write-requires
 write-requires c κs = search needs
@@ -44,13 +44,13 @@ of-message-requires-3 : tie.Need-of-message-requires-3
 of-message-requires-3 c κs = search needs
 
 returns-2 : tie.Need-returns-2
-returns-2 c = refused-bytes _ (now (c .before .before .before .before .before .before .before .before .before .before .before .args .message)) (now (c .before .before .before .before .before .before .before .before .before .before .before .args .table)) (c .before .before .before .before .before .before .before .before .if1 .left) (omega (arith, length-replicate {A = ℕ} 1024 0)) (in-profile _ (c .before .before .before .before .before .before .before .profile-of .ensures) (c .before .before .before .before .before .verdict .ensures)) (c .before .before .found .given .1) (c .of-message2 .ensures)
+returns-2 c = refused-bytes _ _ (now (c .before .before .before .before .before .before .before .before .before .before .before .args .message)) (now (c .before .before .before .before .before .before .before .before .before .before .before .args .table)) (c .before .before .before .before .before .before .before .before .if1 .left) (omega (arith, length-replicate {A = ℕ} 1024 0)) (in-profile _ _ (c .before .before .before .before .before .before .before .profile-of .ensures) (c .before .before .before .before .before .verdict .ensures)) (c .before .before .found .given .1) (c .of-message2 .ensures)
 
 same-length : tie.Need-same-length
 same-length c = search needs
 
 returns-3 : tie.Need-returns-3
-returns-3 c = accepted-bytes _ (now (c .before .before .before .before .before .before .before .before .before .before .before .before .before .before .before .before .args .message)) (now (c .before .before .before .before .before .before .before .before .before .before .before .before .before .before .before .before .args .table)) (c .before .before .before .before .before .before .before .before .before .before .before .before .before .if1 .left) (omega (arith, length-replicate {A = ℕ} 1024 0)) (in-profile _ (c .before .before .before .before .before .before .before .before .before .before .before .before .profile-of .ensures) (c .before .before .before .before .before .before .before .before .before .before .verdict .ensures)) (c .before .before .before .before .before .before .before .found2 .given .1) (c .before .before .before .before .before .before .before .before .before .numbers2 .given) (c .of-message3 .ensures) (c .before .before .before .write .ensures)
+returns-3 c = accepted-bytes _ _ (now (c .before .before .before .before .before .before .before .before .before .before .before .before .before .before .before .before .args .message)) (now (c .before .before .before .before .before .before .before .before .before .before .before .before .before .before .before .before .args .table)) (c .before .before .before .before .before .before .before .before .before .before .before .before .before .if1 .left) (omega (arith, length-replicate {A = ℕ} 1024 0)) (in-profile _ _ (c .before .before .before .before .before .before .before .before .before .before .before .before .profile-of .ensures) (c .before .before .before .before .before .before .before .before .before .before .verdict .ensures)) (c .before .before .before .before .before .before .before .found2 .given .1) (c .before .before .before .before .before .before .before .before .before .numbers2 .given) (c .of-message3 .ensures) (c .before .before .before .write .ensures)
 
 pub glowenzo-verdict-spec : {M : Type 1} → statement M
 glowenzo-verdict-spec =

@@ -11,6 +11,9 @@ regroup-requires c κs = search needs
 enum-known-answer : tie.Need-enum-known-answer
 enum-known-answer c = search needs
 
+as-new-requires : tie.Need-as-new-requires
+as-new-requires c κs = search needs
+
 field-requires : tie.Need-field-requires
 field-requires c κs = search needs
 
@@ -111,7 +114,7 @@ part-result-end-8 : tie.Need-part-result-end-8
 part-result-end-8 c = search needs
 
 returns : tie.Need-returns
-returns c = that-part (part-of-20 _ (now (c .before .before .before .before .before .before .before .before .args .first)) (now (c .before .before .before .before .before .before .before .before .args .second)) (now (c .before .before .before .before .before .before .before .before .args .list)) (c .before .before .before .before .regroup .ensures) (c .before .before .answer .given .1)) (c .field .ensures)
+returns c = that-part (part-of-20 _ (now (c .before .before .before .before .before .before .before .before .before .args .first)) (now (c .before .before .before .before .before .before .before .before .before .args .second)) (now (c .before .before .before .before .before .before .before .before .before .args .list)) (c .before .before .before .before .before .regroup .ensures) (c .before .before .before .answer .given .1)) (rw (c .before .as-new .ensures) at (c .field .ensures))
 
 returns-2 : tie.Need-returns-2
 unfolding NotTwenty
@@ -151,6 +154,7 @@ differing-spec =
     (tie.spec
     regroup-requires
     enum-known-answer
+    as-new-requires
     field-requires
     enum-told
     sub-result

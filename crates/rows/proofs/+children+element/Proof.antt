@@ -1,9 +1,9 @@
 use borrow.Author.Needs.{needs}
 use native.Mathlib.Omega.{arith}
-use mathlib.Core.Path.{_∙_}
+use mathlib.Core.Path.{_∙_, sym}
 use mathlib.Core.Logic.{⊎-elim}
 use Rattle.tree.proofs.Laws.{few-enough, entry-of}
-use Rattle.rows.proofs.Walking.{Among, group-starts, no-way-back, child-not-found, child-refused, child-passed, group-ends, text-in-group, text-in-leaf, elements-in-group, elements-in-leaf}
+use Rattle.rows.proofs.Walking.{Among, group-starts, no-way-back, child-not-found, child-refused, child-passed, group-ends, text-in-group, text-in-leaf, elements-in-group, elements-in-leaf, withdrawn}
 use Prim.Native.Nat.{ℕ, _+_, _*_, _-_, _<_}
 use borrow.Fn.Kinds.{In}
 use borrow.Fn.PlainCycle.{Measures, is, falls, and}
@@ -15,6 +15,7 @@ use Rattle.rows.proofs.element.Kinds as element-kinds
 use Rattle.rows.proofs.+children+element.Lts-element as element-lts
 use Rattle.rows.proofs.not_found.Reads as not-found-reads
 use Rattle.rows_contents.proofs.ended.Reads as ended-reads
+use Rattle.rows_contents.proofs.is_withdrawn.Reads as is-withdrawn-reads
 use Rattle.rows_contents.proofs.leaf.Reads as leaf-reads
 use Rattle.rows_contents.proofs.text_in_group.Reads as text-in-group-reads
 use Rattle.rows_places.proofs.of_entry.Reads as of-entry-reads
@@ -68,6 +69,8 @@ element-claims t = (
   of-entry-reads.Learnt,
   wide-reads.Asked,
   wide-reads.Learnt,
+  is-withdrawn-reads.Asked,
+  is-withdrawn-reads.Learnt,
   cell-reads.Asked,
   cell-reads.Learnt,
   text-in-group-reads.Asked,
@@ -156,7 +159,7 @@ children-returns-4 : (t : ℕ) → children-lts.Need-returns-4 (children-claims 
 children-returns-4 t c = group-ends (c .before .before .before .loop .inv) (c .before .before .loop-test .left) (c .before .cell4 .ensures) _ (c .ended .ensures)
 
 element-returns : (t : ℕ) → element-lts.Need-returns (element-claims t) (element-at t) element.Post
-element-returns t c = λ profile st t next l amount. absurd (omega (arith, few-enough (entry-of l), c .if1 .taken))
+element-returns t c = λ profile st t next l amount holder. absurd (omega (arith, few-enough (entry-of l), c .if1 .taken))
 
 element-of-entry-requires : (t : ℕ) → element-lts.Need-of-entry-requires (element-claims t) (element-at t) element.Post
 element-of-entry-requires t c κs = search needs
@@ -170,38 +173,47 @@ element-of-entry-requires-2 t c κs = search needs
 element-wide-requires-2 : (t : ℕ) → element-lts.Need-wide-requires-2 (element-claims t) (element-at t) element.Post
 element-wide-requires-2 t c κs = search needs
 
+element-is-withdrawn-requires : (t : ℕ) → element-lts.Need-is-withdrawn-requires (element-claims t) (element-at t) element.Post
+element-is-withdrawn-requires t c κs = search needs
+
 element-cell-requires : (t : ℕ) → element-lts.Need-cell-requires (element-claims t) (element-at t) element.Post
 element-cell-requires t c κs = search needs
 
-element-add-if2 : (t : ℕ) → element-lts.Need-add-if2 (element-claims t) (element-at t) element.Post
-element-add-if2 t c = search needs
-
-element-text-in-group-requires : (t : ℕ) → element-lts.Need-text-in-group-requires (element-claims t) (element-at t) element.Post
-element-text-in-group-requires t c κs = search needs
-
 element-returns-2 : (t : ℕ) → element-lts.Need-returns-2 (element-claims t) (element-at t) element.Post
-element-returns-2 t c = text-in-group _ _ _ _ _ _ _ _ (c .before .before .before .before .before .before .wide .ensures ∙ c .before .before .before .before .before .before .before .of-entry .ensures) (c .before .before .before .before .wide2 .ensures ∙ c .before .before .before .before .before .of-entry2 .ensures) (c .before .before .before .cell .ensures) _ (c .before .before .if2 .taken) (c .before .if3 .taken) (c .text-in-group .ensures)
-
-element-leaf-requires : (t : ℕ) → element-lts.Need-leaf-requires (element-claims t) (element-at t) element.Post
-element-leaf-requires t c κs = search needs
-
-element-returns-3 : (t : ℕ) → element-lts.Need-returns-3 (element-claims t) (element-at t) element.Post
-element-returns-3 t c = text-in-leaf _ _ _ _ _ _ _ _ (c .before .before .before .before .before .before .wide .ensures ∙ c .before .before .before .before .before .before .before .of-entry .ensures) (c .before .before .before .before .wide2 .ensures ∙ c .before .before .before .before .before .of-entry2 .ensures) (c .before .before .before .cell .ensures) _ (c .before .before .if2 .taken) (c .before .if3 .left) (c .leaf .ensures)
-
-element-children-requires : (t : ℕ) → element-lts.Need-children-requires (element-claims t) (element-at t) element.Post
-element-children-requires t c κs = (omega (arith, c .before .before .before .before .before .before .before .before .before .pre .0, c .before .before .before .before .before .before .before .if1 .left), omega (arith, c .before .before .before .before .before .before .before .if1 .left))
-
-element-returns-4 : (t : ℕ) → element-lts.Need-returns-4 (element-claims t) (element-at t) element.Post
-element-returns-4 t c = elements-in-group _ _ _ _ _ _ _ _ (c .before .before .before .before .before .before .wide .ensures ∙ c .before .before .before .before .before .before .before .of-entry .ensures) (c .before .before .before .before .wide2 .ensures ∙ c .before .before .before .before .before .of-entry2 .ensures) (c .before .before .before .cell .ensures) _ (c .before .before .if2 .left) (c .before .if4 .taken) (c .children .ensures)
-
-element-add-cell : (t : ℕ) → element-lts.Need-add-cell (element-claims t) (element-at t) element.Post
-element-add-cell t c = search needs
+element-returns-2 t c = withdrawn _ _ _ _ _ _ _ _ (c .before .before .before .before .before .wide .ensures ∙ c .before .before .before .before .before .before .of-entry .ensures) (sym (c .before .before .is-withdrawn .ensures) ∙ c .before .if2 .taken) (c .cell .ensures)
 
 element-cell-requires-2 : (t : ℕ) → element-lts.Need-cell-requires-2 (element-claims t) (element-at t) element.Post
 element-cell-requires-2 t c κs = search needs
 
+element-add-if3 : (t : ℕ) → element-lts.Need-add-if3 (element-claims t) (element-at t) element.Post
+element-add-if3 t c = search needs
+
+element-text-in-group-requires : (t : ℕ) → element-lts.Need-text-in-group-requires (element-claims t) (element-at t) element.Post
+element-text-in-group-requires t c κs = search needs
+
+element-returns-3 : (t : ℕ) → element-lts.Need-returns-3 (element-claims t) (element-at t) element.Post
+element-returns-3 t c = text-in-group _ _ _ _ _ _ _ _ (c .before .before .before .before .before .before .before .before .wide .ensures ∙ c .before .before .before .before .before .before .before .before .before .of-entry .ensures) (c .before .before .before .before .before .before .wide2 .ensures ∙ c .before .before .before .before .before .before .before .of-entry2 .ensures) (c .before .before .before .cell2 .ensures) (sym (c .before .before .before .before .before .is-withdrawn .ensures) ∙ c .before .before .before .before .if2 .left) _ (c .before .before .if3 .taken) (c .before .if4 .taken) (c .text-in-group .ensures)
+
+element-leaf-requires : (t : ℕ) → element-lts.Need-leaf-requires (element-claims t) (element-at t) element.Post
+element-leaf-requires t c κs = search needs
+
+element-returns-4 : (t : ℕ) → element-lts.Need-returns-4 (element-claims t) (element-at t) element.Post
+element-returns-4 t c = text-in-leaf _ _ _ _ _ _ _ _ (c .before .before .before .before .before .before .before .before .wide .ensures ∙ c .before .before .before .before .before .before .before .before .before .of-entry .ensures) (c .before .before .before .before .before .before .wide2 .ensures ∙ c .before .before .before .before .before .before .before .of-entry2 .ensures) (c .before .before .before .cell2 .ensures) (sym (c .before .before .before .before .before .is-withdrawn .ensures) ∙ c .before .before .before .before .if2 .left) _ (c .before .before .if3 .taken) (c .before .if4 .left) (c .leaf .ensures)
+
+element-children-requires : (t : ℕ) → element-lts.Need-children-requires (element-claims t) (element-at t) element.Post
+element-children-requires t c κs = (omega (arith, c .before .before .before .before .before .before .before .before .before .before .before .pre .0, c .before .before .before .before .before .before .before .before .before .if1 .left), omega (arith, c .before .before .before .before .before .before .before .before .before .if1 .left))
+
 element-returns-5 : (t : ℕ) → element-lts.Need-returns-5 (element-claims t) (element-at t) element.Post
-element-returns-5 t c = elements-in-leaf _ _ _ _ _ _ _ _ (c .before .before .before .before .before .before .wide .ensures ∙ c .before .before .before .before .before .before .before .of-entry .ensures) (c .before .before .before .before .wide2 .ensures ∙ c .before .before .before .before .before .of-entry2 .ensures) (c .before .before .before .cell .ensures) (c .before .before .if2 .left) (c .before .if4 .left) (c .cell2 .ensures)
+element-returns-5 t c = elements-in-group _ _ _ _ _ _ _ _ (c .before .before .before .before .before .before .before .before .wide .ensures ∙ c .before .before .before .before .before .before .before .before .before .of-entry .ensures) (c .before .before .before .before .before .before .wide2 .ensures ∙ c .before .before .before .before .before .before .before .of-entry2 .ensures) (c .before .before .before .cell2 .ensures) (sym (c .before .before .before .before .before .is-withdrawn .ensures) ∙ c .before .before .before .before .if2 .left) _ (c .before .before .if3 .left) (c .before .if5 .taken) (c .children .ensures)
+
+element-add-cell : (t : ℕ) → element-lts.Need-add-cell (element-claims t) (element-at t) element.Post
+element-add-cell t c = search needs
+
+element-cell-requires-3 : (t : ℕ) → element-lts.Need-cell-requires-3 (element-claims t) (element-at t) element.Post
+element-cell-requires-3 t c κs = search needs
+
+element-returns-6 : (t : ℕ) → element-lts.Need-returns-6 (element-claims t) (element-at t) element.Post
+element-returns-6 t c = elements-in-leaf _ _ _ _ _ _ _ _ (c .before .before .before .before .before .before .before .before .wide .ensures ∙ c .before .before .before .before .before .before .before .before .before .of-entry .ensures) (c .before .before .before .before .before .before .wide2 .ensures ∙ c .before .before .before .before .before .before .before .of-entry2 .ensures) (c .before .before .before .cell2 .ensures) (sym (c .before .before .before .before .before .is-withdrawn .ensures) ∙ c .before .before .before .before .if2 .left) (c .before .before .if3 .left) (c .before .if5 .left) (c .cell3 .ensures)
 
 pub +children+element-spec : {M : Type 1} → statement M
 +children+element-spec = close μ-children μ-element (λ t. children-lts.spec (children-claims t)
@@ -239,14 +251,17 @@ pub +children+element-spec : {M : Type 1} → statement M
     (element-wide-requires t)
     (element-of-entry-requires-2 t)
     (element-wide-requires-2 t)
+    (element-is-withdrawn-requires t)
     (element-cell-requires t)
-    (element-add-if2 t)
-    (element-text-in-group-requires t)
     (element-returns-2 t)
-    (element-leaf-requires t)
-    (element-returns-3 t)
-    (element-children-requires t)
-    (element-returns-4 t)
-    (element-add-cell t)
     (element-cell-requires-2 t)
+    (element-add-if3 t)
+    (element-text-in-group-requires t)
+    (element-returns-3 t)
+    (element-leaf-requires t)
+    (element-returns-4 t)
+    (element-children-requires t)
     (element-returns-5 t)
+    (element-add-cell t)
+    (element-cell-requires-3 t)
+    (element-returns-6 t)

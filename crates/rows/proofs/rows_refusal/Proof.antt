@@ -18,11 +18,14 @@ text-in-group-requires c κs = search needs
 returns : tie.Need-returns
 returns c = root-of-text _ _ _ _ _ (c .before .before .before .before .before .before .rows .ensures) (c .before .before .before .before .before .places .ensures) (c .before .before .before .before .cell .ensures) (c .before .before .before .if1 .taken) (c .text-in-group .ensures)
 
+judging-of-requires : tie.Need-judging-of-requires
+judging-of-requires c κs = search needs
+
 children-requires : tie.Need-children-requires
 children-requires c κs = search needs
 
 returns-2 : tie.Need-returns-2
-returns-2 c = root-of-elements _ _ _ _ _ (c .before .before .before .before .before .before .rows .ensures) (c .before .before .before .before .before .places .ensures) (c .before .before .before .before .cell .ensures) (c .before .before .before .if1 .left) (c .children .ensures)
+returns-2 c = root-of-elements _ _ _ _ _ (c .before .before .before .before .before .before .before .rows .ensures) (c .before .before .before .before .before .before .places .ensures) (c .before .before .before .before .before .cell .ensures) _ (c .before .judging-of .ensures) (c .before .before .before .before .if1 .left) (c .children .ensures)
 
 pub rows-refusal-spec : {M : Type 1} → statement M
 rows-refusal-spec =
@@ -33,5 +36,6 @@ rows-refusal-spec =
     cell-requires
     text-in-group-requires
     returns
+    judging-of-requires
     children-requires
     returns-2)

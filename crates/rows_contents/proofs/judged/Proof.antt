@@ -5,7 +5,6 @@ use Rattle.paper.specs.Answers.{refusal-found, refusal-of, numbered}
 use Rattle.paper.specs.Refusals.{refuse}
 use Rattle.tree.proofs.Laws.{at-cell, start-cell}
 use Rattle.leaf_values.specs.Judgements.{told}
-use Rattle.rows_contents.specs.Judged.{judgement}
 use Rattle.rows_contents.proofs.Leaves.{judged-as, within-message}
 use Rattle.rows_contents.proofs.judged.Statement.{statement}
 use Rattle.rows_contents.proofs.judged.Tie as tie
@@ -44,22 +43,22 @@ enum-told-3 : tie.Need-enum-told-3
 enum-told-3 c = search needs
 
 returns : tie.Need-returns
-unfolding judgement refusal-found refusal-of numbered told refuse
+unfolding refusal-found refusal-of numbered told refuse
 returns c = λ r h next e p q n. sym (judged-as r h e p q n (c .before .before .before .before .before .currency .ensures h next e) (c .before .before .before .cell2 .ensures) (c .before .before .before .before .held .ensures h next e) (c .before .before .leaf .ensures) (c .enum-told .given .1))
 
 returns-2 : tie.Need-returns-2
-unfolding judgement refusal-found refusal-of numbered told refuse
+unfolding refusal-found refusal-of numbered told refuse
 returns-2 c = λ r h next e p q n. rw (at-cell e (c .before .before .before .before .before .before .cell .ensures)) (sym (judged-as r h e p q n (c .before .before .before .before .before .currency .ensures h next e) (c .before .before .before .cell2 .ensures) (c .before .before .before .before .held .ensures h next e) (c .before .before .leaf .ensures) (c .enum-told2 .given .1)))
 
 returns-3 : tie.Need-returns-3
-unfolding judgement refusal-found refusal-of numbered told refuse
+unfolding refusal-found refusal-of numbered told refuse
 returns-3 c = λ r h next e p q n.
     let told-as = judged-as r h e p q n (c .before .before .before .before .before .before .before .before .currency .ensures h next e) (c .before .before .before .before .before .before .cell2 .ensures) (c .before .before .before .before .before .before .before .held .ensures h next e) (c .before .before .before .before .before .leaf .ensures) (c .before .before .before .judgement .given .1) in
     let start-is = start-cell e (c .before .cell3 .ensures) in
     c .outside .ensures (omega (arith, start-is, e .written .start-first, e .written .close-inside)) (within-message _ _ r h _ _ told-as) ∙ rw start-is (sym told-as)
 
 returns-4 : tie.Need-returns-4
-unfolding judgement refusal-found refusal-of numbered told refuse
+unfolding refusal-found refusal-of numbered told refuse
 returns-4 c = λ r h next e p q n. rw (at-cell e (c .before .before .before .before .before .before .cell .ensures)) (sym (judged-as r h e p q n (c .before .before .before .before .before .currency .ensures h next e) (c .before .before .before .cell2 .ensures) (c .before .before .before .before .held .ensures h next e) (c .before .before .leaf .ensures) (c .enum-told3 .given .1)))
 
 pub judged-spec : {M : Type 1} → statement M

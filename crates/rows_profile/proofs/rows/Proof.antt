@@ -4,7 +4,7 @@ use Rattle.paper.specs.Bytes.{bytes, same}
 use Rattle.paper.specs.Rows.{rows, instant-changes, every-row, leaf, group, group-under}
 use Rattle.form_names.specs.Names.{number-in, name-number}
 use Rattle.rows_profile.specs.Profile.{entries, with-entry, with-entries, no-entry, entries-of}
-use Rattle.rows_profile.proofs.Stands.{as-said}
+use Rattle.rows_profile.proofs.Entries.{as-said}
 use Rattle.rows_profile.proofs.rows.Statement.{statement}
 use Rattle.rows_profile.proofs.rows.Tie as tie
 

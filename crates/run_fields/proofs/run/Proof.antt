@@ -4,10 +4,10 @@ use Rattle.run_fields.proofs.run.Statement.{statement}
 use Rattle.run_fields.proofs.run.Tie as tie
 
 abbrev Inv-loop : tie.InvT-loop
-Inv-loop s at₀ turns₀ at turns = Unit {0}
+Inv-loop archived s at₀ turns₀ at turns = Unit {0}
 
 abbrev μ-loop : tie.MeasureT-loop
-μ-loop s at₀ turns₀ at turns = turns
+μ-loop archived s at₀ turns₀ at turns = turns
 
 loop-holds : tie.Need-loop-holds Inv-loop μ-loop
 loop-holds c = search needs

@@ -5,10 +5,10 @@ use Rattle.run_words.proofs.asked.Statement.{statement}
 use Rattle.run_words.proofs.asked.Tie as tie
 
 abbrev Inv-loop : tie.InvT-loop
-Inv-loop own may-name count instant₀ i₀ instant i = Unit {0}
+Inv-loop own may-name count instant₀ archived₀ i₀ instant archived i = Unit {0}
 
 abbrev μ-loop : tie.MeasureT-loop
-μ-loop own may-name count instant₀ i₀ instant i = count - i
+μ-loop own may-name count instant₀ archived₀ i₀ instant archived i = count - i
 
 arg-count-requires : tie.Need-arg-count-requires Inv-loop μ-loop
 arg-count-requires c κs = search needs
@@ -16,8 +16,17 @@ arg-count-requires c κs = search needs
 loop-holds : tie.Need-loop-holds Inv-loop μ-loop
 loop-holds c = search needs
 
-is-instant-requires : tie.Need-is-instant-requires Inv-loop μ-loop
-is-instant-requires c κs = search needs
+word-requires : tie.Need-word-requires Inv-loop μ-loop
+word-requires c κs = search needs
+
+enum-told : tie.Need-enum-told Inv-loop μ-loop
+enum-told c = search needs
+
+enum-told-2 : tie.Need-enum-told-2 Inv-loop μ-loop
+enum-told-2 c = search needs
+
+enum-told-3 : tie.Need-enum-told-3 Inv-loop μ-loop
+enum-told-3 c = search needs
 
 returns : tie.Need-returns Inv-loop μ-loop
 returns c = search needs
@@ -42,7 +51,10 @@ asked-spec =
     μ-loop
     arg-count-requires
     loop-holds
-    is-instant-requires
+    word-requires
+    enum-told
+    enum-told-2
+    enum-told-3
     returns
     add-i
     loop-less

@@ -1,19 +1,19 @@
--- Numbers stand for a profile where a computed test says so.
+-- The numbers of both profiles stand for their rows, since a computed test says so of each.
 use Prim.Native.Nat.{ℕ, zero, suc, _+_, _-_, _<_, _≤_}
 use mathlib.Core.List.{List, [], _∷_, map}
 use mathlib.Core.Bool.{Bool, true, false}
-use mathlib.Core.Path.{_≡_, refl, sym, ap, _∙_}
+use mathlib.Core.Path.{_≡_, refl, sym, ap}
 use native.Mathlib.Omega.{arith}
 use lib.Dec.{eqb, ltb}
 use borrow.Author.Tests.{eqb-true, eqb-false, ltb-true, ltb-false}
-use Rattle.paper.specs.Bytes.{if_then_else_, bytes, same}
+use Rattle.paper.specs.Bytes.{bytes, same}
 use Rattle.paper.specs.Answers.{profile-named}
 use Rattle.paper.specs.declared.Profile as named
-use Rattle.paper.specs.Rows.{Row, rows as the-rows, instant-changes, with-row, with-rows, instant-rows, every-row, Profile, first-profile, instant-profile, row-in, row-of, name-in, name, leaf, group, group-under}
+use Rattle.paper.specs.Rows.{Row, rows as the-rows, instant-changes, with-row, with-rows, instant-rows, every-row, Profile, for-new, for-archived, profile-by, first-profile, instant-profile, row-in, row-of, name-in, name, leaf, group, group-under}
 use Rattle.form_names.specs.Names.{number-in, name-number, is-row}
 use Rattle.rows_places.specs.Numbers.{number-at, of-entry, of-place, of-kind, place-at, places-from, places-between, places-of, holds-at, row-at, StandsFor, Stands}
 use Rattle.rows_places.proofs.Places.{no-line}
 use Rattle.rows_profile.specs.Profile.{entry-of, place-numbers, places-under, all-places, entries, with-entry, with-entries, no-entry, entries-of}
 
 -- two functions that agree below n, by one equation of lists
 unfoldable pub upto : ℕ → List ℕ
@@ -82,24 +82,36 @@ module _ (profile : Profile) (rows places : List (List ℕ)) where
 
 -- those of each profile
 first-tested : Tested first-profile (entries-of false) all-places
-unfolding upto Agree number-at of-kind place-at places-from places-between places-of holds-at row-at row-in row-of first-profile the-rows instant-changes with-row with-rows instant-rows every-row leaf group group-under bytes same name-in name number-in name-number is-row entry-of place-numbers places-under all-places entries no-entry entries-of
+unfolding upto Agree number-at of-kind place-at places-from places-between places-of holds-at row-at row-in row-of for-new first-profile the-rows instant-changes with-row with-rows instant-rows every-row leaf group group-under bytes same name-in name number-in name-number is-row entry-of place-numbers places-under all-places entries no-entry entries-of
 first-tested = record { root-agrees = refl; first-agree = refl; second-agree = refl }
 
 instant-tested : Tested instant-profile (entries-of true) all-places
-unfolding upto Agree number-at of-kind place-at places-from places-between places-of holds-at row-at row-in row-of instant-profile the-rows instant-changes with-row with-rows instant-rows every-row leaf group group-under bytes same name-in name number-in name-number is-row entry-of place-numbers places-under all-places entries with-entry with-entries entries-of
+unfolding upto Agree number-at of-kind place-at places-from places-between places-of holds-at row-at row-in row-of for-new instant-profile the-rows instant-changes with-row with-rows instant-rows every-row leaf group group-under bytes same name-in name number-in name-number is-row entry-of place-numbers places-under all-places entries with-entry with-entries entries-of
 instant-tested = record { root-agrees = refl; first-agree = refl; second-agree = refl }
 
-pub rows-stand : (p : named.Profile) → Stands (profile-named p) (entries-of (p .instant)) all-places
-unfolding profile-named
-rows-stand p = go (p .instant)
+-- They stand for the rows, whichever of these are withdrawn.
+stands-too : {profile : Profile} {rows places : List (List ℕ)} → Stands profile rows places → (withdrawn : List ℕ)
+    → Stands (record { rows = profile .rows; withdrawn = withdrawn }) rows places
+unfolding row-of
+stands-too {profile} {rows} {places} st withdrawn =
+    record {
+      root-is = st .root-is;
+      first-stands = λ e p low high. one (st .first-stands e p low high);
+      second-stands = λ e p low high. one (st .second-stands e p low high);
+    }
   where
-    go : (b : Bool) → Stands (if b then instant-profile else first-profile) (entries-of b) all-places
-    go false = by-test first-profile (entries-of false) all-places first-tested
-    go true = by-test instant-profile (entries-of true) all-places instant-tested
+    one : {parent e : ℕ} → StandsFor profile rows places parent e → StandsFor (record { rows = profile .rows; withdrawn = withdrawn }) rows places parent e
+    one h = record { row-there = h .row-there; row-is = h .row-is; name-number-is = h .name-number-is }
 
--- entries that are those of the profile that is named
-pub as-said : {b named : Bool} {l : List (List ℕ)} → named ≡ b → l ≡ entries-of b → l ≡ entries-of named
-as-said e f = f ∙ ap entries-of (sym e)
+pub rows-stand : (p : named.Profile) → Stands (profile-named p) (entries-of (p .instant)) all-places
+unfolding profile-named profile-by for-new for-archived first-profile instant-profile
+rows-stand p = go (p .instant) (p .archived)
+  where
+    go : (instant archived : Bool) → Stands (profile-by instant archived) (entries-of instant) all-places
+    go false false = by-test first-profile (entries-of false) all-places first-tested
+    go false true = stands-too (by-test first-profile (entries-of false) all-places first-tested) []
+    go true false = by-test instant-profile (entries-of true) all-places instant-tested
+    go true true = stands-too (by-test instant-profile (entries-of true) all-places instant-tested) []
 
 -- the first entry is row 1, a group
 pub first-entry : (instant : Bool) → of-entry (entries-of instant) 0 0 ≡ 1
