@@ -1,10 +1,11 @@
 /*
  * A payment host in small: reads a message and shows its payments, or checks a regrouping before it is sent.
  *
- *     host [--instant] MESSAGE               prints the verdict, and each payment as the table gives it
- *     host [--instant] FIRST SECOND LIST     prints whether the second message regroups the first by that list
+ *     host [--instant] [--archived] MESSAGE               prints the verdict, and each payment as the table gives it
+ *     host [--instant] [--archived] FIRST SECOND LIST     prints whether the second message regroups the first by that list
  *
- * Messages are read in the first profile, with --instant in the instant one; the first line says in which.
+ * Messages are read in the first profile, with --instant in the instant one; as new, with --archived as archived, which of a regrouping is said of the first
+ * message, the second being always new. The first line says which.
  * Exits with 0 if accepted, 1 if refused, 2 if a file can't be read or the arguments are wrong.
  */
 #include <glowenzo.h>
@@ -42,6 +43,7 @@ static const char *const reasons[] = {
     [GLOWENZO_NAMED_BEFORE] = "a payment was named before",
     [GLOWENZO_FIELDS_DIFFER] = "a field differs",
     [GLOWENZO_TOTAL_TOO_LARGE] = "the total is too large",
+    [GLOWENZO_WITHDRAWN] = "a row that is withdrawn, in a new message",
 };
 
 static const char *reason(uint64_t number)
@@ -64,9 +66,10 @@ static int read_file(const char *path, struct file *file)
     return !failed;
 }
 
-static void show_profile(uint64_t profile)
+/* How it is read: the profile, and whether the message that is named so is archived. */
+static void show_reading(uint64_t profile, const char *message, uint64_t archived)
 {
-    printf("profile: %s\n", profile == GLOWENZO_INSTANT_PROFILE ? "instant" : "first");
+    printf("profile: %s, %s: %s\n", profile == GLOWENZO_INSTANT_PROFILE ? "instant" : "first", message, archived == GLOWENZO_NEW ? "new" : "archived");
 }
 
 static void refused(uint64_t number, uint64_t element, uint64_t offset)
@@ -96,14 +99,14 @@ static void show_payment(const struct file *message, const uint8_t *numbers, uin
     show_part("type", message, numbers, GLOWENZO_PAYMENT_TYPE);
 }
 
-static int verdict(uint64_t profile, const char *path)
+static int verdict(uint64_t profile, uint64_t archived, const char *path)
 {
     static struct file message;
     static uint8_t table[GLOWENZO_TABLE_BYTES];
     if (!read_file(path, &message))
         return 2;
-    show_profile(profile);
-    glowenzo_verdict_t v = glowenzo_verdict(profile, message.bytes, message.length, table, sizeof table);
+    show_reading(profile, "message", archived);
+    glowenzo_verdict_t v = glowenzo_verdict(profile, archived, message.bytes, message.length, table, sizeof table);
     if (v.number != GLOWENZO_ACCEPTED) {
         refused(v.number, v.element, v.offset);
         return 1;
@@ -114,13 +117,13 @@ static int verdict(uint64_t profile, const char *path)
     return 0;
 }
 
-static int regroup(uint64_t profile, const char *first_path, const char *second_path, const char *list_path)
+static int regroup(uint64_t profile, uint64_t archived, const char *first_path, const char *second_path, const char *list_path)
 {
     static struct file first, second, list;
     if (!read_file(first_path, &first) || !read_file(second_path, &second) || !read_file(list_path, &list))
         return 2;
-    show_profile(profile);
-    glowenzo_regroup_t r = glowenzo_regroup(profile, first.bytes, first.length, second.bytes, second.length, list.bytes, list.length);
+    show_reading(profile, "first message", archived);
+    glowenzo_regroup_t r = glowenzo_regroup(profile, archived, first.bytes, first.length, second.bytes, second.length, list.bytes, list.length);
     if (r.number == GLOWENZO_ACCEPTED) {
         puts("accepted: the second message regroups the first");
         return 0;
@@ -136,16 +139,19 @@ static int regroup(uint64_t profile, const char *first_path, const char *second_
 
 int main(int argc, char **argv)
 {
-    uint64_t profile = GLOWENZO_FIRST_PROFILE;
-    if (argc > 1 && strcmp(argv[1], "--instant") == 0) {
-        profile = GLOWENZO_INSTANT_PROFILE;
-        argc--;
-        argv++;
+    uint64_t profile = GLOWENZO_FIRST_PROFILE, archived = GLOWENZO_NEW;
+    for (; argc > 1; argc--, argv++) {
+        if (strcmp(argv[1], "--instant") == 0)
+            profile = GLOWENZO_INSTANT_PROFILE;
+        else if (strcmp(argv[1], "--archived") == 0)
+            archived = GLOWENZO_ARCHIVED;
+        else
+            break;
     }
     if (argc == 2)
-        return verdict(profile, argv[1]);
+        return verdict(profile, archived, argv[1]);
     if (argc == 4)
-        return regroup(profile, argv[1], argv[2], argv[3]);
-    fprintf(stderr, "host [--instant] MESSAGE\nhost [--instant] FIRST SECOND LIST\n");
+        return regroup(profile, archived, argv[1], argv[2], argv[3]);
+    fprintf(stderr, "host [--instant] [--archived] MESSAGE\nhost [--instant] [--archived] FIRST SECOND LIST\n");
     return 2;
 }

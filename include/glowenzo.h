@@ -1,5 +1,6 @@
 /*
- * Glowenzo for C: the verdict on one pain.001.001.09 message, and whether one message regroups another, in the first profile or in the instant one.
+ * Glowenzo for C: the verdict on one pain.001.001.09 message, new or archived, and whether one message regroups another, in the first profile or in the
+ * instant one.
  *
  * Link with the archive that `rt staticlib host` writes (target/staticlib/libhost.a, x86-64 Linux).
  *
@@ -28,6 +29,15 @@ enum {
     GLOWENZO_INSTANT_PROFILE = 1         /* with a local instrument (rows 56, 57), and a date or a date and time (row 58) */
 };
 
+/*
+ * Whether a message is archived, in either profile (docs/RULES.md, 3): row 32, under the debtor's agent, is withdrawn, and an archived message may still hold
+ * it. The caller says so by a number in each call; 0 is a new message, any other number an archived one.
+ */
+enum {
+    GLOWENZO_NEW = 0,
+    GLOWENZO_ARCHIVED = 1
+};
+
 /* Why a message is refused: its number (docs/RULES.md, 6). `element` is a row of section 3 there, 0 where none is named; `offset` is a byte of the message. */
 enum {
     GLOWENZO_ACCEPTED = 0,
@@ -46,7 +56,8 @@ enum {
     GLOWENZO_COUNT_DIFFERS = 12,         /* a count differs from the truth; element 6 or 14; offset: its < */
     GLOWENZO_SUM_DIFFERS = 13,           /* a sum differs from the truth; element 7 or 15; offset: its < */
     GLOWENZO_TABLE_TOO_SHORT = 14,       /* table under 1,024 numbers */
-    GLOWENZO_TOTAL_TOO_LARGE = 21        /* total above 64 bits; no message within the limits reaches it */
+    GLOWENZO_TOTAL_TOO_LARGE = 21,       /* total above 64 bits; no message within the limits reaches it */
+    GLOWENZO_WITHDRAWN = 28              /* row 32 in a new message; offset: its < */
 };
 
 /* Why a regrouping is refused, beside a message's own refusal (docs/RULES.md, 9). The seventeen fields are its section 8. */
@@ -108,15 +119,15 @@ static inline uint32_t glowenzo_number(const uint8_t *table, uint64_t n)
     return (uint32_t)at[0] << 24 | (uint32_t)at[1] << 16 | (uint32_t)at[2] << 8 | (uint32_t)at[3];
 }
 
-/* The verdict on a message, read in that profile. table_len counts bytes. */
-glowenzo_verdict_t glowenzo_verdict(uint64_t profile, const uint8_t *message, uint64_t message_len, uint8_t *table, uint64_t table_len);
+/* The verdict on a message, read in that profile, as new or as archived. table_len counts bytes. */
+glowenzo_verdict_t glowenzo_verdict(uint64_t profile, uint64_t archived, const uint8_t *message, uint64_t message_len, uint8_t *table, uint64_t table_len);
 
 /*
- * Whether the second message is the first with its payments regrouped as the list says, both read in that one profile. The list: the bytes RGL, 16-bit
- * version 1, 16-bit count, then that many 16-bit ordinals, high byte first; ordinal k names the payment of the first message, from 0, that stands k-th in the
- * second. Nothing is written.
+ * Whether the second message is the first with its payments regrouped as the list says, both read in that one profile; `archived` is said of the first, and
+ * the second is always read as new. The list: the bytes RGL, 16-bit version 1, 16-bit count, then that many 16-bit ordinals, high byte first; ordinal k names
+ * the payment of the first message, from 0, that stands k-th in the second. Nothing is written.
  */
-glowenzo_regroup_t glowenzo_regroup(uint64_t profile, const uint8_t *first, uint64_t first_len, const uint8_t *second, uint64_t second_len,
+glowenzo_regroup_t glowenzo_regroup(uint64_t profile, uint64_t archived, const uint8_t *first, uint64_t first_len, const uint8_t *second, uint64_t second_len,
                                     const uint8_t *list, uint64_t list_len);
 
 #ifdef __cplusplus
