@@ -11,7 +11,7 @@ use Rattle.paper.specs.Form.{Head, Element, Elements, holding-text, holding-ele
 use Rattle.paper.specs.Rows.{Place, Contents, text, elements, Row, Profile, row-of, head-of}
 use Rattle.paper.specs.Payments.{Payment, text-of, all-of, blocks, block-id, payments, in-payment, in-block, total}
 use Rattle.paper.specs.Refusals.{Refusal, refuse, _or-else_, Left, from-here, missing, ends, only-white, first-at, Sought, never, early, found, seek, no-judgement, walk, walk-all, rows-refusal, values-refusal, sixty-fifth, too-many, limits-refusal, in-both, in-neither, usage-of, usage, usage-refusal, among-texts, repeated, ids-refusal, total-refusal, unless, block-counts, counts-refusal}
-use Rattle.paper_acceptance.proofs.OneWalk.{Kept, as-found, of-a-value, one-walk}
+use Rattle.paper_acceptance.proofs.OneWalk.{Kept, as-found, of-its-own, of-values, one-walk}
 
 -- a refusal, if there is one, has one of these numbers
 pub data Gives (ns : List ℕ) : Option Refusal → Type 0 where
@@ -95,12 +95,12 @@ module _ (profile : Profile) where
   rows-give root = walk-gives root none 0 (row-of profile 0 1)
 
   -- 6 to 8 and 28, where 3 and 4 refused nothing
-  pub values-give : (root : Element) → rows-refusal profile root ≡ none → Gives (6 ∷ 7 ∷ 8 ∷ 28 ∷ []) (values-refusal profile root)
+  pub values-give : (root : Element) → rows-refusal profile root ≡ none → Gives of-values (values-refusal profile root)
   values-give root e = go (one-walk profile root) e
     where
-      go : {a b : Option Refusal} → Kept a b → b ≡ none → Gives (6 ∷ 7 ∷ 8 ∷ 28 ∷ []) a
-      go (as-found p) q = subst (λ (o : Option Refusal). Gives (6 ∷ 7 ∷ 8 ∷ 28 ∷ []) o) (sym p) (subst (λ (o : Option Refusal). Gives (6 ∷ 7 ∷ 8 ∷ 28 ∷ []) o) (sym q) gives-none)
-      go (of-a-value m) q = gives-one m
+      go : {a b : Option Refusal} → Kept of-values a b → b ≡ none → Gives of-values a
+      go (as-found p) q = subst (λ (o : Option Refusal). Gives of-values o) (sym p) (subst (λ (o : Option Refusal). Gives of-values o) (sym q) gives-none)
+      go (of-its-own m) q = gives-one m
 
 -- 5
 sixty-fifth-gives : (n : ℕ) (ts : List Element) → Gives (5 ∷ []) (sixty-fifth n ts)

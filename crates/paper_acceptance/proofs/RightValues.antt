@@ -1,20 +1,27 @@
 -- What the walk of 6 to 8 leaves right: the leaves of the header and of the blocks, and the amounts, of a message in which it refuses nothing.
 use Prim.Native.Nat.{ℕ}
 use native.Mathlib.Omega.{arith}
-use mathlib.Core.List.{[], _∷_}
-use mathlib.Core.Bool.{true}
+use mathlib.Core.List.{List, [], _∷_}
+use mathlib.Core.Bool.{true, not}
 use mathlib.Core.Option.{Option, none, some}
 use mathlib.Core.Path.{_≡_, refl, ap, subst}
 use Rattle.paper.specs.Bytes.{same}
 use Rattle.paper.specs.Form.{Element}
 use Rattle.paper.specs.Rows.{Contents, text, elements, Row, Profile, row-of, head-of, Conforms}
+use Rattle.paper.specs.Values.{right-for, allowed, spaces-alone}
 use Rattle.paper.specs.Payments.{child, follow, blocks, of-header, payments, text-of}
 use Rattle.paper.specs.Refusals.{values-refusal, among-texts}
 use Rattle.paper.specs.Accepted.{All, RightText, RightLeaf, RightElement, ValuesRight}
+use Rattle.paper.proofs.Laws.{both-right}
 use Rattle.paper_acceptance.proofs.Routes.{holds-text, right-conforms, leaf-conforms, EndsAs}
 use Rattle.paper_acceptance.proofs.Proper.{leads, Proper, payment-route}
 use Rattle.paper_acceptance.proofs.Present.{As, follow-one, ends-as, PaymentAs, blocks-as, payments-as}
 use Rattle.paper_acceptance.proofs.Stages.{values-right}
+
+-- a value that is allowed is right for its row
+pub right-value : (parent row : ℕ) (currency w : List ℕ) → allowed parent row currency w ≡ true → right-for parent row currency w ≡ true
+unfolding allowed
+right-value parent row currency w e = both-right (not (spaces-alone w)) _ e
 
 module _ (profile : Profile) (proper : Proper profile) where
   abbrev pub Right : (holder : Option Element) (parent : ℕ) → Row → Element → Type 0

@@ -2,7 +2,7 @@
 -- new one in which no element is named as row 32. Of any other message the outcome is as before or a refusal by 28. Verdict, table and fields are functions of the outcome.
 use Prim.Native.Nat.{ℕ}
 use native.Mathlib.Omega.{arith}
-use mathlib.Core.List.{List, [], _∷_, List·Memᴰ, List·Memᴰ·not-nil, List·Memᴰ·eq-of-singleton}
+use mathlib.Core.List.{List, [], _∷_, List·Memᴰ, List·Memᴰ·head, List·Memᴰ·not-nil, List·Memᴰ·eq-of-singleton}
 use mathlib.Core.Bool.{Bool, true, false, _&&_, _||_}
 use mathlib.Core.Option.{Option, none, some}
 use mathlib.Core.Path.{_≡_, refl, sym, ap, subst}
@@ -18,6 +18,7 @@ use Rattle.paper.specs.Regrouping.{regrouping, differing-part}
 use Rattle.paper.proofs.Laws.{both-left, same-says, among-not, or-else-none}
 use Rattle.paper_grammar.proofs.Sound.{sound}
 use Rattle.paper_acceptance.proofs.Arranged.{named-in-says, past-found}
+use Rattle.paper_acceptance.proofs.OneWalk.{Kept, as-found, of-its-own, if-kept, or-kept}
 use Rattle.paper_archived.specs.Before as before
 
 -- no element of a tree has this name
@@ -227,36 +228,22 @@ unfolding outcome before.outcome
 new-as-before profile n s c = ap (unless-refused (table-refusal n)) (new-alone-as-before profile s c)
 
 -- Whatever a message holds, its outcome is as before or a refusal by 28.
-data UnlessTwentyEight : (now old : Option Refusal) → Type 0 where
-  the-same : {a b : Option Refusal} → a ≡ b → UnlessTwentyEight a b
-  twenty-eight : {x : Refusal} {b : Option Refusal} → x .number ≡ 28 → UnlessTwentyEight (some x) b
-
-unless-in-turn : (a b c d : Option Refusal) → UnlessTwentyEight a b → UnlessTwentyEight c d → UnlessTwentyEight (a or-else c) (b or-else d)
-unfolding _or-else_
-unless-in-turn none b c d (the-same e) k = subst (λ (z : Option Refusal). UnlessTwentyEight c (z or-else d)) e k
-unless-in-turn (some x) b c d (the-same e) k = subst (λ (z : Option Refusal). UnlessTwentyEight (some x) (z or-else d)) e (the-same refl)
-unless-in-turn (some x) b c d (twenty-eight n) k = twenty-eight n
-
-unless-twenty-eight : Relation UnlessTwentyEight
-unless-twenty-eight = record { equal = λ a b e. the-same e; in-turn = unless-in-turn }
+unless-twenty-eight : Relation (Kept (28 ∷ []))
+unless-twenty-eight = record { equal = λ a b e. as-found e; in-turn = λ a b c d h k. or-kept a h k }
 
 values-unless : (withdrawn : List ℕ) (holder : Option Element) (parent : ℕ) (r : Row) (t : Element)
-    → UnlessTwentyEight (value-refusal withdrawn holder parent r t) (at-leaf text-refusal parent r t)
+    → Kept (28 ∷ []) (value-refusal withdrawn holder parent r t) (at-leaf text-refusal parent r t)
 unfolding value-refusal refuse
-values-unless withdrawn holder parent r t = go (among (r .row) withdrawn)
-  where
-    go : (b : Bool) → UnlessTwentyEight (if b then refuse 28 (r .row) (head-of t .at) else leaf-refusal parent r t) (at-leaf text-refusal parent r t)
-    go true = twenty-eight refl
-    go false = the-same (leaf-judged parent r t)
+values-unless withdrawn holder parent r t = if-kept (among (r .row) withdrawn) (of-its-own (List·Memᴰ·head refl)) (as-found (leaf-judged parent r t))
 
-tree-unless : (profile : Profile) (root : Element) → UnlessTwentyEight (tree-refusal profile root) (before.tree-refusal (profile .rows) root)
+tree-unless : (profile : Profile) (root : Element) → Kept (28 ∷ []) (tree-refusal profile root) (before.tree-refusal (profile .rows) root)
 unfolding tree-refusal before.tree-refusal values-refusal before.values-refusal row-of
 tree-unless profile root =
-    unless-in-turn _ _ _ _ (the-same (rows-same profile root))
-    (unless-in-turn _ _ _ _ (the-same refl)
-    (unless-in-turn _ _ _ _
+    or-kept _ (as-found (rows-same profile root))
+    (or-kept _ (as-found refl)
+    (or-kept _
     (walks-alike unless-twenty-eight profile (value-refusal (profile .withdrawn)) text-refusal anything (λ r. Unit {0}) (λ t row k known e. tt) (λ holder parent r t a. values-unless (profile .withdrawn) holder parent r t) root none 0 (row-in (profile .rows) 0 1) tt tt)
-    (the-same refl)))
+    (as-found refl)))
 
 pub data AsBeforeOr28 (now old : Outcome) : Type 0 where
   as-before : now ≡ old → AsBeforeOr28 now old
@@ -271,9 +258,9 @@ pub alone-unless-28 : (profile : Profile) (s : List ℕ) → AsBeforeOr28 (outco
 unfolding outcome-alone before.outcome-alone of-reading before.of-reading unless-refused
 alone-unless-28 profile s = or-refused-before (size-refusal s) (of-read (read s))
   where
-    of-tree : (root : Element) {a b : Option Refusal} → UnlessTwentyEight a b → AsBeforeOr28 (unless-refused a (accepted-with root)) (unless-refused b (accepted-with root))
-    of-tree root (the-same e) = as-before (ap (λ (o : Option Refusal). unless-refused o (accepted-with root)) e)
-    of-tree root (twenty-eight n) = by-28 refl n
+    of-tree : (root : Element) {a b : Option Refusal} → Kept (28 ∷ []) a b → AsBeforeOr28 (unless-refused a (accepted-with root)) (unless-refused b (accepted-with root))
+    of-tree root (as-found e) = as-before (ap (λ (o : Option Refusal). unless-refused o (accepted-with root)) e)
+    of-tree root (of-its-own m) = by-28 refl (List·Memᴰ·eq-of-singleton m)
 
     of-read : (r : Reading) → AsBeforeOr28 (of-reading profile r) (before.of-reading (profile .rows) r)
     of-read (stops-at n) = as-before refl

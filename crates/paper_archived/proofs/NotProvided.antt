@@ -2,7 +2,7 @@
 use Prim.Native.Nat.{ℕ, suc}
 use native.Mathlib.Omega.{arith}
 use mathlib.Core.List.{List, [], _∷_, List·Memᴰ, List·Memᴰ·head, List·Memᴰ·tail, List·Memᴰ·cases-cons, List·Memᴰ·eq-of-singleton}
-use mathlib.Core.Bool.{Bool, true, false, _||_, not}
+use mathlib.Core.Bool.{Bool, true, false, _||_}
 use mathlib.Core.Option.{Option, none, some}
 use mathlib.Core.Path.{_≡_, refl, sym, ap, _∙_, subst}
 use mathlib.Core.Logic.{⊎-elim}
@@ -11,7 +11,7 @@ use lib.ListN.{getD}
 use Rattle.paper.specs.Bytes.{if_then_else_, bytes, same}
 use Rattle.paper.specs.Form.{Head, Element, Elements, holding-text, holding-elements, []ᵉ, _∷ᵉ_}
 use Rattle.paper.specs.Rows.{either, Row, leaf, group, group-under, rows, instant-changes, every-row, Profile, for-new, as-new, name-in, name, row-of, head-of, Arranged, end, chosen, Conforms, Conform}
-use Rattle.paper.specs.Values.{among, shaped, bic, right-for, allowed, spaces-alone}
+use Rattle.paper.specs.Values.{among, shaped, bic, right-for}
 use Rattle.paper.specs.Payments.{Payment, text-of, listed, children, all-named, all-of, child, follow, payments, in-block, either-of}
 use Rattle.paper.specs.Refusals.{rows-at, among-texts}
 use Rattle.paper.specs.Fields.{Value, absent, a-text, text-value, plain, or-means, amount-field, remittance, fields, values-of}
@@ -22,7 +22,7 @@ use Rattle.paper_acceptance.proofs.Arranged.{rows-of}
 use Rattle.paper_acceptance.proofs.Routes.{takes, step, choice-there, right-conforms, StandsAs, EndsAs}
 use Rattle.paper_acceptance.proofs.Proper.{Proper, new-proper, block-route, bic-or-not}
 use Rattle.paper_acceptance.proofs.Present.{As, payments-as, stands, ends-as, follow-joined}
-use Rattle.paper_acceptance.proofs.RightValues.{leaf-text}
+use Rattle.paper_acceptance.proofs.RightValues.{right-value, leaf-text}
 use Rattle.paper_pairing.proofs.Regroups.{at-within}
 use Rattle.paper_archived.proofs.AsBefore.{row-is}
 
@@ -39,10 +39,6 @@ unfoldable pub AgentNotProvided : Payment → Type 0
 AgentNotProvided p = There (in-block (29 ∷ 30 ∷ 32 ∷ []) p)
 
 -- right texts of rows 31 and 33
-right-value : (parent row : ℕ) (currency w : List ℕ) → allowed parent row currency w ≡ true → right-for parent row currency w ≡ true
-unfolding allowed
-right-value parent row currency w e = both-right (not (spaces-alone w)) _ e
-
 a-bic : {h : Head} {w : List ℕ} → RightText 30 (leaf 31 "BICFI" 11) h w → w ≡ bytes "NOTPROVIDED" → ⊥
 unfolding right-for leaf bytes among bic
 a-bic {h} {w} r e =

@@ -2,7 +2,7 @@
 use Prim.Native.Nat.{ℕ, _≤_}
 use Prim.Native.String.{String}
 use mathlib.Core.List.{List, [], _∷_}
-use mathlib.Core.Bool.{true, not}
+use mathlib.Core.Bool.{true}
 use mathlib.Core.Option.{none, some}
 use mathlib.Core.Path.{_≡_, refl, sym, ap, subst, _∙_}
 use borrow.Author.Tests.{le-leb, leb-true}
@@ -12,21 +12,17 @@ use lib.Dec.{leb}
 use Rattle.paper.specs.Bytes.{bytes, every, digit, same}
 use Rattle.paper.specs.Form.{Head, Element}
 use Rattle.paper.specs.Rows.{Row, text, leaf, Profile, longest-of}
-use Rattle.paper.specs.Values.{among, lies-from, digits, count, money, amount, cents, right-for, spaces-alone, allowed}
+use Rattle.paper.specs.Values.{among, lies-from, digits, count, money, amount, cents, right-for}
 use Rattle.paper.specs.Payments.{Payment, text-of, follow, of-header, payments}
 use Rattle.paper.specs.Refusals.{values-refusal, among-texts}
 use Rattle.paper.specs.Accepted.{All, RightText, RightElement}
 use Rattle.paper.proofs.Laws.{both, both-left, both-right, all-map}
 use Rattle.paper_acceptance.proofs.Proper.{Proper, root-route, block-route}
 use Rattle.paper_acceptance.proofs.Present.{PaymentAs}
-use Rattle.paper_acceptance.proofs.RightValues.{RightAs, header-right, blocks-right, payments-right, block-leaf-right, amount-right}
+use Rattle.paper_acceptance.proofs.RightValues.{right-value, RightAs, header-right, blocks-right, payments-right, block-leaf-right, amount-right}
 use Rattle.tree_leaves.specs.Readable.{ReadBlock, Readable}
 
 -- a right count of a row that takes at most fifteen bytes; right money; a right amount
-right-value : (parent row : ℕ) (currency w : List ℕ) → allowed parent row currency w ≡ true → right-for parent row currency w ≡ true
-unfolding allowed
-right-value parent row currency w e = both-right (not (spaces-alone w)) _ e
-
 count-read : (parent : ℕ) {r : Row} {h : Head} {w : List ℕ} → RightText parent r h w → longest-of (r .holds) ≡ 15
     → ((currency : List ℕ) → right-for parent (r .row) currency w ≡ count w) → digits 1 15 w ≡ true
 unfolding digits lies-from count
