@@ -1,5 +1,5 @@
 -- Acceptance (docs/RULES.md, 5), said without any order of checks. It speaks of a message; that the lent table is long enough is asked beside it.
-use Prim.Native.Nat.{ℕ, _+_, _≤_, _<_, _^_}
+use Prim.Native.Nat.{ℕ, _+_, _≤_}
 use mathlib.Core.List.{List, [], _∷_, map, List·Memᴰ}
 use mathlib.Core.Option.{Option, none, some}
 use mathlib.Core.Bool.{true}
@@ -85,18 +85,6 @@ pub record IdsApart (root : Element) : Type 0 where
   pub has-its-own : EachWith (λ b id. Says (λ w. w) (block-id b) id) (blocks root) ids
   pub distinct : Distinct ids
 
--- The exact sum in cents of the instructed amounts of some payments' elements: each has its amount, and these are added.
-pub data Sum : List Element → ℕ → Type 0 where
-  sum-none : Sum [] 0
-  sum-more : {t : Element} {ts : List Element} {amount rest : ℕ} → Says cents (instructed-amount t) amount → Sum ts rest
-      → Sum (t ∷ ts) (amount + rest)
-
--- The total of the amounts is not above 64 bits.
-pub record TotalFits (root : Element) : Type 0 where
-  pub cents : ℕ
-  pub is-total : Sum (map (λ p. p .own) (payments root)) cents
-  pub fits : cents < 2 ^ 64
-
 -- All that is asked but the counts and sums.
 pub record RightButCounts (profile : Profile) (root : Element) : Type 0 where
   pub rows : RowsKept profile root
@@ -104,7 +92,12 @@ pub record RightButCounts (profile : Profile) (root : Element) : Type 0 where
   pub values : ValuesRight profile root
   pub usage : UsageKept root
   pub ids : IdsApart root
-  pub total : TotalFits root
+
+-- The exact sum in cents of the instructed amounts of some payments' elements: each has its amount, and these are added.
+pub data Sum : List Element → ℕ → Type 0 where
+  sum-none : Sum [] 0
+  sum-more : {t : Element} {ts : List Element} {amount rest : ℕ} → Says cents (instructed-amount t) amount → Sum ts rest
+      → Sum (t ∷ ts) (amount + rest)
 
 -- A count and a sum that are stated are the true number of some payments' elements and the exact sum of their amounts in cents.
 pub record Truthful (stated-count stated-sum : Option Element) (ts : List Element) : Type 0 where

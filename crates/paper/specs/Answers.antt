@@ -3,7 +3,7 @@
 use Prim.Native.Nat.{ℕ}
 use mathlib.Core.Option.{Option, none, some}
 use Rattle.paper.specs.declared.Fault.{Fault}
-use Rattle.paper.specs.declared.Fault.the-variants.{TableTooShort, MessageTooLong, NotOfTheForm, NotAllowedThere, Missing, TooMany, EmptyOrTooLong, CharacterNotInTheSet, ValueNotAllowed, Withdrawn, InPaymentAndBlock, InNeither, BlockIdRepeated, TotalTooLarge, CountDiffers, SumDiffers}
+use Rattle.paper.specs.declared.Fault.the-variants.{TableTooShort, MessageTooLong, NotOfTheForm, NotAllowedThere, Missing, TooMany, EmptyOrTooLong, CharacterNotInTheSet, ValueNotAllowed, Withdrawn, InPaymentAndBlock, InNeither, BlockIdRepeated, CountDiffers, SumDiffers}
 use Rattle.paper.specs.declared.Finding.{Finding}
 use Rattle.paper.specs.declared.Finding.the-variants as finding
 use Rattle.paper.specs.declared.Verdict.{Verdict}
@@ -38,7 +38,6 @@ refusal-of (Withdrawn element offset) = numbered 28 element offset
 refusal-of (InPaymentAndBlock element offset) = numbered 9 element offset
 refusal-of (InNeither offset) = numbered 10 16 offset
 refusal-of (BlockIdRepeated offset) = numbered 11 11 offset
-refusal-of (TotalTooLarge offset) = numbered 21 7 offset
 refusal-of (CountDiffers element offset) = numbered 12 element offset
 refusal-of (SumDiffers element offset) = numbered 13 element offset
 

@@ -10,16 +10,16 @@ use Rattle.paper.specs.Form.{Element, IsMessage, OfTheForm}
 use Rattle.paper.specs.Rows.{Profile, as-new}
 use Rattle.paper.specs.Payments.{Payment, payments}
 use Rattle.paper.specs.Refusals.{Refusal, refused-as, outcome-alone}
-use Rattle.paper.specs.Accepted.{EachWith, Distinct, RowsKept, LimitsKept, ValuesRight, UsageKept, IdsApart, TotalFits, CountsTrue, Accepted}
+use Rattle.paper.specs.Accepted.{EachWith, Distinct, RowsKept, LimitsKept, ValuesRight, UsageKept, IdsApart, CountsTrue, Accepted}
 use Rattle.paper.specs.Fields.{Value, values-of}
 use Rattle.paper.specs.Regrouping.{RegroupingAnswer, message-refused, answered, file-of, At, Names, Regroups}
 
 pub data Stage : Type 0 where
-  for-table for-size for-form for-rows for-limits for-values for-usage for-ids for-total for-counts : Stage
+  for-table for-size for-form for-rows for-limits for-values for-usage for-ids for-counts : Stage
 
 unfoldable pub order : List Stage
 order =
-    for-table ∷ for-size ∷ for-form ∷ for-rows ∷ for-limits ∷ for-values ∷ for-usage ∷ for-ids ∷ for-total ∷ for-counts ∷ []
+    for-table ∷ for-size ∷ for-form ∷ for-rows ∷ for-limits ∷ for-values ∷ for-usage ∷ for-ids ∷ for-counts ∷ []
 
 unfoldable pub numbers : Stage → List ℕ
 numbers for-table = 14 ∷ []
@@ -30,7 +30,6 @@ numbers for-limits = 5 ∷ []
 numbers for-values = 6 ∷ 7 ∷ 8 ∷ 28 ∷ []
 numbers for-usage = 9 ∷ 10 ∷ []
 numbers for-ids = 11 ∷ []
-numbers for-total = 21 ∷ []
 numbers for-counts = 12 ∷ 13 ∷ []
 
 -- the message has a root, of which something holds
@@ -47,7 +46,6 @@ StageHolds profile n s for-limits = OfItsRoot s LimitsKept
 StageHolds profile n s for-values = OfItsRoot s (ValuesRight profile)
 StageHolds profile n s for-usage = OfItsRoot s UsageKept
 StageHolds profile n s for-ids = OfItsRoot s IdsApart
-StageHolds profile n s for-total = OfItsRoot s TotalFits
 StageHolds profile n s for-counts = OfItsRoot s CountsTrue
 
 -- The first of some stages that does not hold: those before it do.

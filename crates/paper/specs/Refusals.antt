@@ -1,5 +1,5 @@
 -- Refusals of a message (docs/RULES.md, 6). Stages run in this order, each over the whole message, if the earlier ones found nothing.
-use Prim.Native.Nat.{ℕ, suc, _+_, _^_}
+use Prim.Native.Nat.{ℕ, suc, _+_}
 use mathlib.Core.List.{List, [], _∷_}
 use mathlib.Core.Option.{Option, none, some}
 use mathlib.Core.Bool.{Bool, true, false, _||_, not}
@@ -222,14 +222,6 @@ repeated earlier (b ∷ bs) =
 unfoldable pub ids-refusal : Element → Option Refusal
 ids-refusal root = repeated [] (blocks root)
 
--- 21: the total of the amounts above 64 bits.
-unfoldable pub at-of : Option Element → ℕ
-at-of none = 0
-at-of (some t) = head-of t .at
-
-unfoldable pub total-refusal : Element → Option Refusal
-total-refusal root = if ltb (total root) (2 ^ 64) then none else refuse 21 7 (at-of (header-sum root))
-
 -- 12 and 13: one walk: header count, header sum, then each block's count and sum. Header numbers cover the whole message.
 unfoldable pub unless : (List ℕ → Bool) → (refusal row : ℕ) → Option Element → Option Refusal
 unless right refusal row none = refuse refusal row 0
@@ -250,7 +242,7 @@ counts-refusal root =
 unfoldable pub tree-refusal : Profile → Element → Option Refusal
 tree-refusal profile root =
     rows-refusal profile root or-else limits-refusal root or-else values-refusal profile root or-else usage-refusal root or-else
-    ids-refusal root or-else total-refusal root or-else counts-refusal root
+    ids-refusal root or-else counts-refusal root
 
 -- What comes of a message: a refusal, or acceptance, with the root of the message's tree.
 pub data Outcome : Type 0 where
@@ -261,14 +253,14 @@ unfoldable pub unless-refused : Option Refusal → Outcome → Outcome
 unless-refused (some r) otherwise = refused-as r
 unless-refused none otherwise = otherwise
 
--- 2: the form, at the offset where the reading stops.
-unfoldable pub of-reading : Profile → Reading → Outcome
-of-reading profile (stops-at n) = refused-as (record { number = 2; element = 0; offset = n })
-of-reading profile (root-is root) = unless-refused (tree-refusal profile root) (accepted-with root)
+-- 2: the form, at the offset where the reading stops. Otherwise the stages over the tree decide, in the verdict `tree-refusal` of a profile.
+unfoldable pub of-reading : (of-tree : Element → Option Refusal) → Reading → Outcome
+of-reading of-tree (stops-at n) = refused-as (record { number = 2; element = 0; offset = n })
+of-reading of-tree (root-is root) = unless-refused (of-tree root) (accepted-with root)
 
 -- where no table is lent, as in a regrouping; and where a table of so many numbers is
 unfoldable pub outcome-alone : Profile → List ℕ → Outcome
-outcome-alone profile s = unless-refused (size-refusal s) (of-reading profile (read s))
+outcome-alone profile s = unless-refused (size-refusal s) (of-reading (tree-refusal profile) (read s))
 
 unfoldable pub outcome : Profile → (table-length : ℕ) → List ℕ → Outcome
 outcome profile n s = unless-refused (table-refusal n) (outcome-alone profile s)

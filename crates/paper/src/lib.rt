@@ -30,7 +30,6 @@ pub enum Fault {
     InPaymentAndBlock { element: usize, offset: usize },
     InNeither { offset: usize },
     BlockIdRepeated { offset: usize },
-    TotalTooLarge { offset: usize },
     CountDiffers { element: usize, offset: usize },
     SumDiffers { element: usize, offset: usize },
 }

@@ -100,6 +100,13 @@ m1-with id count sum = order (header id count sum) (block "B1" "2" "35.1" study-
 unfoldable pub m1 : List ℕ
 m1 = m1-with "M1" "2" "35.10"
 
+-- M1 with the largest amount in both payments, and these sums in header and block
+unfoldable pub m1-largest : (sum block-sum : String) → List ℕ
+m1-largest sum block-sum =
+    order (header "M1" "2" sum)
+    (block "B1" "2" block-sum study-12 ++
+    (payment "E1" "999999999.99" "A Weis" "LU699871234567898765" ++ payment "E2" "999999999.99" "B Klein" "LU415551234567898765"))
+
 unfoldable pub m2 : List ℕ
 m2 = order (header "M1" "2" "35.10") (block "B1" "2" "35.1" study-12 ++ (klein ++ weis))
 
@@ -244,7 +251,11 @@ more-cases =
     field m1 2 6 0 0 ∷
     field m3 1 8 0 0 ∷
     differing m1 m2 (list 0 1) 662 2 ∷
-    differing m1 m2 (list 1 0) 0 0 ∷ []
+    differing m1 m2 (list 1 0) 0 0 ∷
+    -- a sum is exact, and not what is left of it in 32 bits
+    message (m1-largest "1999999999.98" "1999999999.98") (accepted 1 2 199999999998) ∷
+    message (m1-largest "24315043.82" "1999999999.98") (refused-with 13 7 167) ∷
+    message (m1-largest "1999999999.98" "24315043.82") (refused-with 13 15 316) ∷ []
 
 -- I1's 32 numbers: 9 and 10 are all that row 16 holds, the local instrument too.
 unfoldable pub i1-numbers : List ℕ
