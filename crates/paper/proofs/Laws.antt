@@ -12,9 +12,10 @@ use lib.ListN.{length, length-append}
 use lib.Dec.{eqb}
 use Rattle.paper.specs.Bytes.{Every, every-none, every-more, every, same, each}
 use Rattle.paper.specs.Form.{Element}
-use Rattle.paper.specs.Values.{among}
-use Rattle.paper.specs.Payments.{either-of}
-use Rattle.paper.specs.Refusals.{Refusal, _or-else_}
+use Rattle.paper.specs.Values.{among, cents}
+use Rattle.paper.specs.Payments.{either-of, text-of, instructed-amount, amount-of}
+use Rattle.paper.specs.Computed.Reading.{Reading, root-is, stops-at, read}
+use Rattle.paper.specs.Refusals.{Refusal, _or-else_, size-refusal, accepted-with, unless-refused, of-reading}
 use Rattle.paper.specs.Accepted.{All, all-none, all-more}
 
 -- two values that can't be equal
@@ -150,3 +151,28 @@ pub or-else-none : (a : Option Refusal) → a or-else none ≡ a
 unfolding _or-else_
 or-else-none none = refl
 or-else-none (some x) = refl
+
+-- the amount of a payment where one stands, and where none does
+pub amount-is : (t : Element) {u : Element} → instructed-amount t ≡ some u → amount-of t ≡ cents (text-of u)
+unfolding amount-of
+amount-is t e = go e
+  where
+    go : {o : Option Element} {u : Element} → o ≡ some u → _≡_ {A = ℕ} (elim o [ none ↦ 0 | some v ↦ cents (text-of v) ]) (cents (text-of u))
+    go e = rw e
+
+pub no-amount : (t : Element) → instructed-amount t ≡ none → amount-of t ≡ 0
+unfolding amount-of
+no-amount t e = go e
+  where
+    go : {o : Option Element} → o ≡ none → _≡_ {A = ℕ} (elim o [ none ↦ 0 | some v ↦ cents (text-of v) ]) 0
+    go e = rw e
+
+-- two ways to refuse a tree that agree on the tree of a message give it one outcome
+pub outcomes-same : (one other : Element → Option Refusal) (s : List ℕ) → ((root : Element) → read s ≡ root-is root → one root ≡ other root)
+    → unless-refused (size-refusal s) (of-reading one (read s)) ≡ unless-refused (size-refusal s) (of-reading other (read s))
+unfolding of-reading
+outcomes-same one other s same-refusal = ap (unless-refused (size-refusal s)) (go (read s) refl)
+  where
+    go : (r : Reading) → read s ≡ r → of-reading one r ≡ of-reading other r
+    go (stops-at n) e = refl
+    go (root-is root) e = ap (λ (o : Option Refusal). unless-refused o (accepted-with root)) (same-refusal root e)

@@ -1,16 +1,16 @@
 -- The numbers that each stage gives.
-use Prim.Native.Nat.{ℕ, suc, _+_, _^_}
+use Prim.Native.Nat.{ℕ, suc, _+_}
 use mathlib.Core.List.{List, [], _∷_, List·Memᴰ, List·Memᴰ·head, List·Memᴰ·tail}
 use mathlib.Core.Bool.{Bool, true, false}
 use mathlib.Core.Option.{Option, none, some}
 use mathlib.Core.Path.{_≡_, refl, sym, subst}
-use lib.Dec.{eqb, ltb}
+use lib.Dec.{eqb}
 use lib.ListN.{length}
 use Rattle.paper.specs.Bytes.{if_then_else_, white, every}
 use Rattle.paper.specs.Form.{Head, Element, Elements, holding-text, holding-elements, []ᵉ, _∷ᵉ_}
 use Rattle.paper.specs.Rows.{Place, Contents, text, elements, Row, Profile, row-of, head-of}
-use Rattle.paper.specs.Payments.{Payment, text-of, all-of, blocks, block-id, payments, in-payment, in-block, total}
-use Rattle.paper.specs.Refusals.{Refusal, refuse, _or-else_, Left, from-here, missing, ends, only-white, first-at, Sought, never, early, found, seek, no-judgement, walk, walk-all, rows-refusal, values-refusal, sixty-fifth, too-many, limits-refusal, in-both, in-neither, usage-of, usage, usage-refusal, among-texts, repeated, ids-refusal, total-refusal, unless, block-counts, counts-refusal}
+use Rattle.paper.specs.Payments.{Payment, text-of, all-of, blocks, block-id, payments, in-payment, in-block}
+use Rattle.paper.specs.Refusals.{Refusal, refuse, _or-else_, Left, from-here, missing, ends, only-white, first-at, Sought, never, early, found, seek, no-judgement, walk, walk-all, rows-refusal, values-refusal, sixty-fifth, too-many, limits-refusal, in-both, in-neither, usage-of, usage, usage-refusal, among-texts, repeated, ids-refusal, unless, block-counts, counts-refusal}
 use Rattle.paper_acceptance.proofs.OneWalk.{Kept, as-found, of-its-own, of-values, one-walk}
 
 -- a refusal, if there is one, has one of these numbers
@@ -164,11 +164,6 @@ repeated-gives earlier (b ∷ bs) = go (block-id b) (λ w. repeated-gives (w ∷
 pub ids-give : (root : Element) → Gives (11 ∷ []) (ids-refusal root)
 unfolding ids-refusal
 ids-give root = repeated-gives [] (blocks root)
-
--- 21
-pub total-gives : (root : Element) → Gives (21 ∷ []) (total-refusal root)
-unfolding total-refusal
-total-gives root = if-gives (ltb (total root) (2 ^ 64)) gives-none (refuse-gives _ _ first-number)
 
 -- 12 and 13
 unless-gives : (right : List ℕ → Bool) {number : ℕ} (row : ℕ) (o : Option Element) {ns : List ℕ} → List·Memᴰ number ns → Gives ns (unless right number row o)

@@ -15,24 +15,24 @@ use Rattle.paper.specs.Computed.Reading.{Reading, root-is, stops-at, read}
 use Rattle.paper.specs.Rows.{Profile}
 use Rattle.paper.specs.Values.{among}
 use Rattle.paper.specs.Refusals.{Refusal, _or-else_, table-refusal, size-refusal, tree-refusal, Outcome, refused-as, accepted-with, unless-refused, of-reading, outcome-alone, outcome, MessageAnswer, refused, accepted, answer-to, verdict}
-use Rattle.paper.specs.Accepted.{All, all-none, all-more, RowsKept, LimitsKept, ValuesRight, UsageKept, IdsApart, TotalFits, CountsTrue, Accepted}
-use Rattle.paper.specs.Order.{Stage, for-table, for-size, for-form, for-rows, for-limits, for-values, for-usage, for-ids, for-total, for-counts, order, numbers, OfItsRoot, StageHolds, FirstNot, this-one, a-later-one}
+use Rattle.paper.specs.Accepted.{All, all-none, all-more, RowsKept, LimitsKept, ValuesRight, UsageKept, IdsApart, CountsTrue, Accepted}
+use Rattle.paper.specs.Order.{Stage, for-table, for-size, for-form, for-rows, for-limits, for-values, for-usage, for-ids, for-counts, order, numbers, OfItsRoot, StageHolds, FirstNot, this-one, a-later-one}
 use Rattle.paper.proofs.Laws.{some-not-none, all-member}
 use Rattle.paper_grammar.proofs.Complete.{complete}
 use Rattle.paper_grammar.proofs.Sound.{sound}
 use Rattle.paper_grammar.proofs.Decides.{stop-is-refusal, refusal-is-stop}
 use Rattle.paper_acceptance.proofs.Proper.{Proper}
-use Rattle.paper_acceptance.proofs.Stages.{rows-kept, limits-kept, values-right, usage-kept, ids-apart, total-fits, counts-true}
-use Rattle.paper_acceptance.proofs.Given.{Gives, gives-none, gives-one, if-gives, refuse-gives, rows-give, limits-give, values-give, usage-gives, ids-give, total-gives, counts-give}
+use Rattle.paper_acceptance.proofs.Stages.{rows-kept, limits-kept, values-right, usage-kept, ids-apart, counts-true}
+use Rattle.paper_acceptance.proofs.Given.{Gives, gives-none, gives-one, if-gives, refuse-gives, rows-give, limits-give, values-give, usage-gives, ids-give, counts-give}
 use Rattle.paper_acceptance.proofs.Accepts.{accepted-from, accepts-with-table}
 use Rattle.paper_acceptance.proofs.Outcome.{amounts-there, block-amounts-there, size-kept, table-kept, unless-none, accepted-alone, accepted-with-table}
 
 -- the stages over the tree of a message
 abbrev tree-stages : List Stage
-tree-stages = for-rows ∷ for-limits ∷ for-values ∷ for-usage ∷ for-ids ∷ for-total ∷ for-counts ∷ []
+tree-stages = for-rows ∷ for-limits ∷ for-values ∷ for-usage ∷ for-ids ∷ for-counts ∷ []
 
 -- A number belongs to one stage at most.
-stage-at : ℕ → List Stage → Option Stage
+unfoldable pub stage-at : ℕ → List Stage → Option Stage
 stage-at n [] = none
 stage-at n (stage ∷ stages) = if among n (numbers stage) then some stage else stage-at n stages
 
@@ -46,7 +46,6 @@ each-number for-limits = all-more refl all-none
 each-number for-values = all-more refl (all-more refl (all-more refl (all-more refl all-none)))
 each-number for-usage = all-more refl (all-more refl all-none)
 each-number for-ids = all-more refl all-none
-each-number for-total = all-more refl all-none
 each-number for-counts = all-more refl (all-more refl all-none)
 
 one-stage : {n : ℕ} (a b : Stage) → List·Memᴰ n (numbers a) → List·Memᴰ n (numbers b) → a ≡ b
@@ -54,9 +53,13 @@ one-stage {n} a b m k =
     let e : some a ≡ some b = sym (all-member (each-number a) m) ∙ all-member (each-number b) k in
     cc
 
-no-stage : {A : Type 0} (a : Stage) → List·Memᴰ 0 (numbers a) → A
+-- A number that `stage-at` finds nowhere is no stage's. 0 is such a number.
+pub no-stage : {A : Type 0} {n : ℕ} → stage-at n order ≡ none → (a : Stage) → List·Memᴰ n (numbers a) → A
+no-stage e a m = some-not-none (sym (all-member (each-number a) m) ∙ e)
+
+pub zero-at-none : stage-at 0 order ≡ none
 unfolding stage-at numbers order among
-no-stage a m = some-not-none (sym (all-member (each-number a) m))
+zero-at-none = refl
 
 module _ (H : Stage → Type 0) where
   -- there is one first stage that does not hold, and none where all hold
@@ -164,12 +167,10 @@ module _ (profile : Profile) (proper : Proper profile) (n : ℕ) (s : List ℕ) 
         stage-then H for-usage _ (usage-gives root) (of-root UsageKept (usage-kept root))
         (λ _.
         stage-then H for-ids _ (ids-give root) (of-root IdsApart (ids-apart root))
-        (λ _.
-        stage-then H for-total _ (total-gives root) (of-root TotalFits (total-fits root amounts))
         (λ _ r f.
-        here H for-counts (counts-give root) (of-root CountsTrue (counts-true root amounts (block-amounts-there profile proper root kept))) f))))))
+        here H for-counts (counts-give root) (of-root CountsTrue (counts-true root amounts (block-amounts-there profile proper root kept))) f)))))
 
-  of-form : (r : Reading) → read s ≡ r → Ends H (of-reading profile r) (for-form ∷ tree-stages)
+  of-form : (r : Reading) → read s ≡ r → Ends H (of-reading (tree-refusal profile) r) (for-form ∷ tree-stages)
   unfolding of-reading StageHolds numbers OfTheForm unless-refused
   of-form (stops-at k) e r f =
       let g : _≡_ {A = Refusal} (record { number = 2; element = 0; offset = k }) r = cc in
@@ -202,8 +203,7 @@ module _ (profile : Profile) (proper : Proper profile) (n : ℕ) (s : List ℕ) 
       (all-more {a = for-limits} (root, m, c .limits)
       (all-more {a = for-values} (root, m, c .values)
       (all-more {a = for-usage} (root, m, c .usage)
-      (all-more {a = for-ids} (root, m, c .ids)
-      (all-more {a = for-total} (root, m, c .total) (all-more {a = for-counts} (root, m, t .counts) all-none)))))))))
+      (all-more {a = for-ids} (root, m, c .ids) (all-more {a = for-counts} (root, m, t .counts) all-none))))))))
 
   -- The answer's number is one of a stage's exactly where that stage is the first that does not hold.
   pub refused-by : (stage : Stage) → List·Memᴰ (verdict profile n s .number) (numbers stage) ↔ FirstNot (StageHolds profile n s) order stage
@@ -216,7 +216,7 @@ module _ (profile : Profile) (proper : Proper profile) (n : ℕ) (s : List ℕ) 
             (λ m. subst (λ (a : Stage). FirstNot (StageHolds profile n s) order a) (one-stage (f .stage) stage (f .its-number) m) (f .is-first)),
             (λ k. subst (λ (a : Stage). List·Memᴰ (r .number) (numbers a)) (one-first H (f .is-first) k) (f .its-number)),
           )
-      go (accepted-with root) e = ((λ m. no-stage stage m), (λ k. absurd (none-first H (all-hold root e) k)))
+      go (accepted-with root) e = ((λ m. no-stage zero-at-none stage m), (λ k. absurd (none-first H (all-hold root e) k)))
 
   -- Number 0 is acceptance.
   pub accepted-zero : verdict profile n s .number ≡ 0 ↔ (least-table ≤ n) × Accepted profile s
@@ -226,7 +226,7 @@ module _ (profile : Profile) (proper : Proper profile) (n : ℕ) (s : List ℕ) 
       go : (o : Outcome) → outcome profile n s ≡ o → answer-to o .number ≡ 0 ↔ (least-table ≤ n) × Accepted profile s
       go (refused-as r) e =
           let f = by-first r e in (
-            (λ z. no-stage (f .stage) (subst (λ (k : ℕ). List·Memᴰ k (numbers (f .stage))) z (f .its-number))),
+            (λ z. no-stage zero-at-none (f .stage) (subst (λ (k : ℕ). List·Memᴰ k (numbers (f .stage))) z (f .its-number))),
             (λ h.
                 let b = accepts-with-table profile proper n s (h .0) .1 (h .1) in
                 let q : refused-as r ≡ accepted-with (b .0) = sym e ∙ b .1 in
@@ -238,7 +238,7 @@ module _ (profile : Profile) (proper : Proper profile) (n : ℕ) (s : List ℕ) 
           ((λ z. (a .0, accepted-from profile proper s root (a .1))), (λ h. refl))
 
   -- Refusal 2, with its offset: the first impossible byte.
-  long-and-short : least-table ≤ n → length s ≤ largest-message → outcome profile n s ≡ of-reading profile (read s)
+  long-and-short : least-table ≤ n → length s ≤ largest-message → outcome profile n s ≡ of-reading (tree-refusal profile) (read s)
   unfolding outcome outcome-alone
   long-and-short l m = unless-none (table-kept n .1 l) ∙ unless-none (size-kept s .1 m)
 
@@ -249,7 +249,7 @@ module _ (profile : Profile) (proper : Proper profile) (n : ℕ) (s : List ℕ) 
   unfolding verdict answer-to refused of-reading OfTheForm
   stops-with k l m e not-form = go (read s) refl (sym (ap answer-to (long-and-short l m)) ∙ e)
     where
-      go : (r : Reading) → read s ≡ r → answer-to (of-reading profile r) ≡ two-at k → FirstImpossible s k
+      go : (r : Reading) → read s ≡ r → answer-to (of-reading (tree-refusal profile) r) ≡ two-at k → FirstImpossible s k
       go (root-is root) p q = absurd (not-form (root, sound s root p))
       go (stops-at j) p q = let z : j ≡ k = ap (λ (a : MessageAnswer). a .offset) q in stop-is-refusal s k (p ∙ ap stops-at z)
 
@@ -265,20 +265,16 @@ module _ (profile : Profile) (proper : Proper profile) (n : ℕ) (s : List ℕ) 
           (h .0, h .1, stops-with k (h .0) (h .1) e (first-fails H f))
 
       back : (least-table ≤ n) × (length s ≤ largest-message) × FirstImpossible s k → verdict profile n s ≡ two-at k
-      back h = ap answer-to (long-and-short (h .0) (h .1) ∙ ap (of-reading profile) (refusal-is-stop s k (h .2)))
+      back h = ap answer-to (long-and-short (h .0) (h .1) ∙ ap (of-reading (tree-refusal profile)) (refusal-is-stop s k (h .2)))
 
 -- a table of the least length is long enough
 long-alone : (profile : Profile) (s : List ℕ) → outcome profile least-table s ≡ outcome-alone profile s
 unfolding outcome
 long-alone profile s = unless-none (table-kept least-table .1 (omega arith))
 
--- No refusal has the number 0, also where no table is lent.
-pub not-zero : (profile : Profile) → Proper profile → (s : List ℕ) {r : Refusal} → outcome-alone profile s ≡ refused-as r → r .number ≡ 0 → ⊥
-unfolding verdict answer-to refused
-not-zero profile proper s {r} e z =
-    let o : outcome profile least-table s ≡ refused-as r = long-alone profile s ∙ e in
-    let n : verdict profile least-table s .number ≡ 0 = ap (λ (q : Outcome). answer-to q .number) o ∙ z in
-    let a = accepts-with-table profile proper least-table s (omega arith) .1 (accepted-zero profile proper least-table s .0 n .1) in
-    let q : refused-as r ≡ accepted-with (a .0) = sym o ∙ a .1 in
-    let y : _≡_ {A = ℕ} 0 1 = cc in
-    omega (arith, y)
+-- A refusal has a number of some stage, also where no table is lent.
+pub of-a-stage : (profile : Profile) → Proper profile → (n : ℕ) (s : List ℕ) {r : Refusal} → outcome profile n s ≡ refused-as r → (stage : Stage) × List·Memᴰ (r .number) (numbers stage)
+of-a-stage profile proper n s e = let f = by-first profile proper n s _ e in (f .stage, f .its-number)
+
+pub alone-of-a-stage : (profile : Profile) → Proper profile → (s : List ℕ) {r : Refusal} → outcome-alone profile s ≡ refused-as r → (stage : Stage) × List·Memᴰ (r .number) (numbers stage)
+alone-of-a-stage profile proper s e = of-a-stage profile proper least-table s (long-alone profile s ∙ e)

@@ -23,7 +23,7 @@ use Rattle.paper_acceptance.proofs.Rows.{neither, or-none, refuses}
 use Rattle.paper_acceptance.proofs.Routes.{steps, step-all}
 use Rattle.paper_acceptance.proofs.Proper.{Proper, payment-route}
 use Rattle.paper_acceptance.proofs.Present.{As, stands, PaymentAs, blocks-as, payments-as}
-use Rattle.paper_acceptance.proofs.Stages.{HasAmount, own-elements, rows-kept, limits-kept, values-right, usage-kept, ids-apart, total-fits, counts-true}
+use Rattle.paper_acceptance.proofs.Stages.{HasAmount, own-elements, rows-kept, limits-kept, values-right, usage-kept, ids-apart, counts-true}
 
 -- where the rows are kept, each payment has its amount
 module _ (profile : Profile) (proper : Proper profile) (root : Element) (kept : RowsKept profile root) where
@@ -55,7 +55,6 @@ module _ (profile : Profile) (proper : Proper profile) where
       let c = neither _ _ (b .1) in
       let d = neither _ _ (c .1) in
       let f = neither _ _ (d .1) in
-      let g = neither _ _ (f .1) in
       let kept = rows-kept profile (proper .apart) root .0 (a .0) in
       record {
         but-counts = record {
@@ -64,9 +63,8 @@ module _ (profile : Profile) (proper : Proper profile) where
           values = values-right profile (proper .apart) root .0 (c .0);
           usage = usage-kept root .0 (d .0);
           ids = ids-apart root .0 (f .0);
-          total = total-fits root (amounts-there profile proper root kept) .0 (g .0);
         };
-        counts = counts-true root (amounts-there profile proper root kept) (block-amounts-there profile proper root kept) .0 (g .1);
+        counts = counts-true root (amounts-there profile proper root kept) (block-amounts-there profile proper root kept) .0 (f .1);
       }
 
   pub accepted-no-refusal : (root : Element) → AcceptedTree profile root → tree-refusal profile root ≡ none
@@ -79,8 +77,7 @@ module _ (profile : Profile) (proper : Proper profile) where
       (or-none (values-right profile (proper .apart) root .1 (r .values))
       (or-none (usage-kept root .1 (r .usage))
       (or-none (ids-apart root .1 (r .ids))
-      (or-none (total-fits root (amounts-there profile proper root kept) .1 (r .total))
-      (counts-true root (amounts-there profile proper root kept) (block-amounts-there profile proper root kept) .1 (t .counts)))))))
+      (counts-true root (amounts-there profile proper root kept) (block-amounts-there profile proper root kept) .1 (t .counts))))))
 
 not-refused : (o : Option Refusal) {later : Outcome} {root : Element} → unless-refused o later ≡ accepted-with root → (o ≡ none) × (later ≡ accepted-with root)
 unfolding unless-refused
@@ -108,7 +105,7 @@ unfolding table-refusal
 table-kept n = within least-table n 14 0 0
 
 module _ (profile : Profile) (proper : Proper profile) where
-  reading-accepted : (r : Reading) (root : Element) → of-reading profile r ≡ accepted-with root ↔ (r ≡ root-is root) × AcceptedTree profile root
+  reading-accepted : (r : Reading) (root : Element) → of-reading (tree-refusal profile) r ≡ accepted-with root ↔ (r ≡ root-is root) × AcceptedTree profile root
   unfolding of-reading
   reading-accepted (stops-at n) root =
       ((λ e. let z : _≡_ {A = ℕ} 0 1 = cc in absurd (omega arith)), (λ p. let e = p .0 in let z : _≡_ {A = ℕ} 0 1 = cc in absurd (omega arith)))

@@ -1,18 +1,21 @@
 -- What the walk of 6 to 8 leaves right: the leaves of the header and of the blocks, and the amounts, of a message in which it refuses nothing.
-use Prim.Native.Nat.{ℕ}
+use Prim.Native.Nat.{ℕ, _≤_}
+use Prim.Native.String.{String}
 use native.Mathlib.Omega.{arith}
 use mathlib.Core.List.{List, [], _∷_}
 use mathlib.Core.Bool.{true, not}
 use mathlib.Core.Option.{Option, none, some}
 use mathlib.Core.Path.{_≡_, refl, ap, subst}
-use Rattle.paper.specs.Bytes.{same}
-use Rattle.paper.specs.Form.{Element}
-use Rattle.paper.specs.Rows.{Contents, text, elements, Row, Profile, row-of, head-of, Conforms}
-use Rattle.paper.specs.Values.{right-for, allowed, spaces-alone}
-use Rattle.paper.specs.Payments.{child, follow, blocks, of-header, payments, text-of}
+use borrow.Author.Tests.{leb-true}
+use lib.Dec.{leb}
+use Rattle.paper.specs.Bytes.{bytes, same}
+use Rattle.paper.specs.Form.{Head, Element}
+use Rattle.paper.specs.Rows.{Contents, text, elements, Row, leaf, Profile, row-of, head-of, Conforms}
+use Rattle.paper.specs.Values.{among, lies-from, money, cents, amount, right-for, allowed, spaces-alone}
+use Rattle.paper.specs.Payments.{Payment, child, follow, blocks, of-header, payments, text-of, instructed-amount, amount-of}
 use Rattle.paper.specs.Refusals.{values-refusal, among-texts}
 use Rattle.paper.specs.Accepted.{All, RightText, RightLeaf, RightElement, ValuesRight}
-use Rattle.paper.proofs.Laws.{both-right}
+use Rattle.paper.proofs.Laws.{both-left, both-right, all-map, amount-is, no-amount}
 use Rattle.paper_acceptance.proofs.Routes.{holds-text, right-conforms, leaf-conforms, EndsAs}
 use Rattle.paper_acceptance.proofs.Proper.{leads, Proper, payment-route}
 use Rattle.paper_acceptance.proofs.Present.{As, follow-one, ends-as, PaymentAs, blocks-as, payments-as}
@@ -22,6 +25,31 @@ use Rattle.paper_acceptance.proofs.Stages.{values-right}
 pub right-value : (parent row : ℕ) (currency w : List ℕ) → allowed parent row currency w ≡ true → right-for parent row currency w ≡ true
 unfolding allowed
 right-value parent row currency w e = both-right (not (spaces-alone w)) _ e
+
+-- a right text of a row that is known, and what that row holds
+pub known : {parent : ℕ} {r q : Row} {h : Head} {w : List ℕ} → r ≡ q → RightText parent r h w → RightText parent q h w
+known {parent} {h = h} {w = w} e c = subst (λ (r : Row). RightText parent r h w) e c
+
+pub holds-of : {r : Row} (row : ℕ) (name : String) (longest : ℕ) → r ≡ leaf row name longest → r .holds ≡ text longest
+unfolding leaf
+holds-of row name longest e = ap (λ (r : Row). r .holds) e
+
+-- a right amount: it is money, and lies within row 42's limits
+amount-read : {h : Head} {w : List ℕ} → RightText 41 (leaf 42 "InstdAmt" 18) h w → amount w ≡ true
+unfolding right-for leaf bytes among
+amount-read {h} {w} r = both-left (amount w) (same (h .currency) (bytes "EUR")) (right-value _ _ _ w (r .value))
+
+pub amount-money : (w : List ℕ) → amount w ≡ true → money w ≡ true
+unfolding amount
+amount-money w e = both-left (money w) _ e
+
+amount-small : (w : List ℕ) → amount w ≡ true → cents w ≤ 99999999999
+unfolding amount lies-from
+amount-small w e = leb-true (cents w) 99999999999 (both-right (leb 1 (cents w)) _ (both-right (money w) _ e))
+
+-- a payment of no more than row 42's limit
+abbrev pub SmallAmount : Payment → Type 0
+SmallAmount p = amount-of (p .own) ≤ 99999999999
 
 module _ (profile : Profile) (proper : Proper profile) where
   abbrev pub Right : (holder : Option Element) (parent : ℕ) → Row → Element → Type 0
@@ -74,3 +102,16 @@ module _ (profile : Profile) (proper : Proper profile) where
 
     pub payments-right : All (PaymentAs profile proper Right) (payments root)
     payments-right = payments-as profile proper Right root root-right
+
+    -- The amounts that stand there are right, and no payment has more than row 42's limit.
+    pub amounts-right : All (λ (p : Payment). (u : Element) → instructed-amount (p .own) ≡ some u → amount (text-of u) ≡ true) (payments root)
+    amounts-right =
+        all-map (λ p c u e. amount-read (known (proper .amount-is) (amount-right (p .own) (c .own-as) 18 u (holds-of _ _ _ (proper .amount-is)) e))) payments-right
+
+    pub small-amounts : All SmallAmount (payments root)
+    small-amounts = all-map (λ p c. go p c (instructed-amount (p .own)) refl) amounts-right
+      where
+        go : (p : Payment) → ((u : Element) → instructed-amount (p .own) ≡ some u → amount (text-of u) ≡ true) → (o : Option Element) → instructed-amount (p .own) ≡ o
+            → SmallAmount p
+        go p c none e = let z = no-amount (p .own) e in omega (arith, z)
+        go p c (some u) e = let n = amount-is (p .own) e in let l = amount-small (text-of u) (c u e) in omega (arith, n, l)

@@ -1,22 +1,22 @@
 -- Each stage of the verdict refuses nothing exactly where what `Accepted` says of it holds.
-use Prim.Native.Nat.{ℕ, suc, _+_, _≤_, _<_, _^_}
+use Prim.Native.Nat.{ℕ, suc, _+_, _≤_}
 use native.Mathlib.Omega.{arith}
 use mathlib.Core.List.{List, [], _∷_, map, List·Memᴰ, List·Memᴰ·head, List·Memᴰ·tail, List·Memᴰ·cases-cons, List·Memᴰ·not-nil, Memᴰ·cast}
 use mathlib.Core.Bool.{Bool, true, false, _&&_, _||_, not}
 use mathlib.Core.Option.{Option, none, some}
 use mathlib.Core.Path.{_≡_, refl, sym, _∙_, ap, subst}
 use mathlib.Core.Logic.{_↔_, _⊎_, inl, inr, ⊎-elim}
-use borrow.Author.Tests.{eqb-true, eqb-false, eq-eqb, ne-eqb, ltb-true, lt-ltb, leb-true, le-leb, not-false}
+use borrow.Author.Tests.{eqb-true, eqb-false, eq-eqb, ne-eqb, leb-true, le-leb, not-false}
 use lib.ListN.{length, length-append, length-map}
-use lib.Dec.{eqb, leb, ltb}
+use lib.Dec.{eqb, leb}
 use Rattle.paper.specs.Bytes.{if_then_else_, value-character, every, same}
 use Rattle.paper.specs.Form.{Head, Element, holding-text, holding-elements}
 use Rattle.paper.specs.Rows.{Contents, text, elements, Row, Profile, row-of, longest-of, head-of}
 use Rattle.paper.specs.Values.{among, lies-from, allowed, number, cents}
-use Rattle.paper.specs.Payments.{Payment, text-of, all-of, blocks, header-count, header-sum, block-id, block-count, block-sum, instructed-amount, payments, payments-from, payments-of, in-payment, in-block, amount-of, sum-of, total}
-use Rattle.paper.specs.Refusals.{Refusal, refuse, _or-else_, text-refusal, leaf-refusal, value-refusal, no-judgement, among-texts, unless, at-of, sixty-fifth, too-many, in-both, in-neither, usage-of, usage, repeated, block-counts, rows-refusal, values-refusal, limits-refusal, usage-refusal, ids-refusal, total-refusal, counts-refusal}
-use Rattle.paper.specs.Accepted.{All, all-none, all-more, EachWith, each-none, each-more, Distinct, distinct-none, distinct-more, AnyElement, RightText, RightLeaf, RightElement, There, Says, RowsKept, LimitsKept, ValuesRight, NotBoth, Used, UsageKept, IdsApart, Sum, sum-none, sum-more, TotalFits, Truthful, CountsTrue}
-use Rattle.paper.proofs.Laws.{false-not-true, some-not-none, or-right, both-left, both-right, every-says, every-tests, same-says, same-tests, among-member, among-not, all-member, all-map, all-from}
+use Rattle.paper.specs.Payments.{Payment, text-of, all-of, blocks, header-count, header-sum, block-id, block-count, block-sum, instructed-amount, payments, payments-from, payments-of, in-payment, in-block, sum-of, total}
+use Rattle.paper.specs.Refusals.{Refusal, refuse, _or-else_, text-refusal, leaf-refusal, value-refusal, no-judgement, among-texts, unless, sixty-fifth, too-many, in-both, in-neither, usage-of, usage, repeated, block-counts, rows-refusal, values-refusal, limits-refusal, usage-refusal, ids-refusal, counts-refusal}
+use Rattle.paper.specs.Accepted.{All, all-none, all-more, EachWith, each-none, each-more, Distinct, distinct-none, distinct-more, AnyElement, RightText, RightLeaf, RightElement, There, Says, RowsKept, LimitsKept, ValuesRight, NotBoth, Used, UsageKept, IdsApart, Sum, sum-none, sum-more, Truthful, CountsTrue}
+use Rattle.paper.proofs.Laws.{amount-is, false-not-true, some-not-none, or-right, both-left, both-right, every-says, every-tests, same-says, same-tests, among-member, among-not, all-member, all-map, all-from}
 use Rattle.paper_acceptance.proofs.Rows.{neither, or-none, refuses, RowsApart, walk-conforms, conforms-walk}
 
 -- 6 to 8 and 28 at one element
@@ -292,13 +292,6 @@ ids-apart root = (
 abbrev pub HasAmount : Element → Type 0
 HasAmount t = There (instructed-amount t)
 
-amount-is : (t : Element) {u : Element} → instructed-amount t ≡ some u → amount-of t ≡ cents (text-of u)
-unfolding amount-of
-amount-is t e = go e
-  where
-    go : {o : Option Element} {u : Element} → o ≡ some u → _≡_ {A = ℕ} (elim o [ none ↦ 0 | some v ↦ cents (text-of v) ]) (cents (text-of u))
-    go e = rw e
-
 pub sums : {ts : List Element} → All HasAmount ts → Sum ts (sum-of ts)
 unfolding sum-of
 sums all-none = sum-none
@@ -312,15 +305,6 @@ sum-is (sum-more {t = t} s h) = let a = sym (s .says) ∙ sym (amount-is t (s .s
 -- the payments' elements
 abbrev pub own-elements : Element → List Element
 own-elements root = map (λ p. p .own) (payments root)
-
--- 21
-pub total-fits : (root : Element) → All HasAmount (own-elements root) → total-refusal root ≡ none ↔ TotalFits root
-unfolding total-refusal total
-total-fits root amounts = ((λ e. go (ltb (total root) (2 ^ 64)) refl e), (λ t. rw (lt-ltb (sum-of (own-elements root)) (2 ^ 64) (subst (λ (n : ℕ). n < 2 ^ 64) (sum-is (t .is-total)) (t .fits)))))
-  where
-    go : (c : Bool) → ltb (total root) (2 ^ 64) ≡ c → (if c then none else refuse 21 7 (at-of (header-sum root))) ≡ none → TotalFits root
-    go true p q = record { cents = sum-of (own-elements root); is-total = sums amounts; fits = ltb-true _ _ p }
-    go false p q = refuses _ _ _ q
 
 -- 12 and 13
 truthful : (stated-count stated-sum : Option Element) (row-of-count row-of-sum : ℕ) (ts : List Element) (later : Option Refusal) → All HasAmount ts

@@ -15,7 +15,7 @@ use Rattle.paper.specs.Rows.{Place, Contents, text, elements, Row, Profile, for
 use Rattle.paper.specs.Values.{among}
 use Rattle.paper.specs.Refusals.{Refusal, refuse, _or-else_, Left, from-here, again, only-white, first-at, Sought, never, early, found, past, named-in, rows-at, left-of, seek-in, seek, Judgement, walk, walk-all, no-judgement, text-refusal, leaf-refusal, value-refusal, rows-refusal, values-refusal, tree-refusal, Outcome, refused-as, accepted-with, unless-refused, of-reading, size-refusal, table-refusal, outcome-alone, outcome}
 use Rattle.paper.specs.Regrouping.{regrouping, differing-part}
-use Rattle.paper.proofs.Laws.{both-left, same-says, among-not, or-else-none}
+use Rattle.paper.proofs.Laws.{both-left, same-says, among-not, or-else-none, outcomes-same}
 use Rattle.paper_grammar.proofs.Sound.{sound}
 use Rattle.paper_acceptance.proofs.Arranged.{named-in-says, past-found}
 use Rattle.paper_acceptance.proofs.OneWalk.{Kept, as-found, of-its-own, if-kept, or-kept}
@@ -196,12 +196,9 @@ module _ (profile : Profile) (one-stays : List·Memᴰ 1 (profile .withdrawn) �
       (λ t row k c e. stays row k (λ m. not-named t (name k) (c k m) e)) (values-agree (profile .withdrawn)) root none 0 (row-in (profile .rows) 0 1) (stays 0 1 one-stays) c
 
   alone-same : (s : List ℕ) → NoneWithdrawn profile s → outcome-alone profile s ≡ before.outcome-alone (profile .rows) s
-  unfolding outcome-alone before.outcome-alone of-reading before.of-reading tree-refusal before.tree-refusal NoneWithdrawn
-  alone-same s c = ap (unless-refused (size-refusal s)) (go (read s) refl)
-    where
-      go : (r : Reading) → read s ≡ r → of-reading profile r ≡ before.of-reading (profile .rows) r
-      go (stops-at n) e = refl
-      go (root-is root) e = rw (rows-same profile root, values-same root (c root (sound s root e)))
+  unfolding outcome-alone before.outcome-alone tree-refusal before.tree-refusal NoneWithdrawn
+  alone-same s c =
+      outcomes-same (tree-refusal profile) (before.tree-refusal (profile .rows)) s (λ root e. rw (rows-same profile root, values-same root (c root (sound s root e))))
 
 -- Every outcome for an archived message is as before,
 pub archived-alone-as-before : (profile : Profile) (s : List ℕ) → outcome-alone (as-archived profile) s ≡ before.outcome-alone (profile .rows) s
@@ -255,14 +252,14 @@ or-refused-before none h = h
 or-refused-before (some x) h = as-before refl
 
 pub alone-unless-28 : (profile : Profile) (s : List ℕ) → AsBeforeOr28 (outcome-alone profile s) (before.outcome-alone (profile .rows) s)
-unfolding outcome-alone before.outcome-alone of-reading before.of-reading unless-refused
+unfolding outcome-alone before.outcome-alone of-reading unless-refused
 alone-unless-28 profile s = or-refused-before (size-refusal s) (of-read (read s))
   where
     of-tree : (root : Element) {a b : Option Refusal} → Kept (28 ∷ []) a b → AsBeforeOr28 (unless-refused a (accepted-with root)) (unless-refused b (accepted-with root))
     of-tree root (as-found e) = as-before (ap (λ (o : Option Refusal). unless-refused o (accepted-with root)) e)
     of-tree root (of-its-own m) = by-28 refl (List·Memᴰ·eq-of-singleton m)
 
-    of-read : (r : Reading) → AsBeforeOr28 (of-reading profile r) (before.of-reading (profile .rows) r)
+    of-read : (r : Reading) → AsBeforeOr28 (of-reading (tree-refusal profile) r) (of-reading (before.tree-refusal (profile .rows)) r)
     of-read (stops-at n) = as-before refl
     of-read (root-is root) = of-tree root (tree-unless profile root)
 

@@ -1,12 +1,13 @@
--- The verdict and the regrouping as they were before a row was withdrawn: the walk of 6 to 8 asks its judgement at the leaves alone, and both messages of a regrouping are read alike.
+-- The verdict and the regrouping as they were before a row was withdrawn: the walk of 6 to 8 asks its judgement at the leaves alone, and both messages of a regrouping are read alike. (Refusal 21, which there was then,
+-- is left out: no message reached it, crates/paper_total.)
 -- Kept for the theorem that the answers of today are these, where no element is named as a row that is withdrawn (proofs/AsBefore.antt). All that is not said here is today's.
 use Prim.Native.Nat.{ℕ}
-use mathlib.Core.List.{List, []}
+use mathlib.Core.List.{List}
 use mathlib.Core.Option.{Option, none}
 use Rattle.paper.specs.Form.{Head, Element, Elements, holding-text, holding-elements, []ᵉ, _∷ᵉ_}
-use Rattle.paper.specs.Computed.Reading.{Reading, root-is, stops-at, read}
+use Rattle.paper.specs.Computed.Reading.{read}
 use Rattle.paper.specs.Rows.{text, elements, Row, row-in, head-of}
-use Rattle.paper.specs.Refusals.{Refusal, refuse, _or-else_, Left, from-here, ends, only-white, first-at, never, early, found, seek, text-refusal, limits-refusal, usage-refusal, ids-refusal, total-refusal, counts-refusal, Outcome, refused-as, accepted-with, unless-refused, size-refusal, table-refusal}
+use Rattle.paper.specs.Refusals.{Refusal, refuse, _or-else_, Left, from-here, ends, only-white, first-at, never, early, found, seek, text-refusal, limits-refusal, usage-refusal, ids-refusal, counts-refusal, Outcome, unless-refused, of-reading, size-refusal, table-refusal}
 use Rattle.paper.specs.Regrouping.{RegroupingAnswer, of-outcomes, part-for}
 use Rattle.paper.specs.Table.{Part}
 
@@ -44,14 +45,10 @@ values-refusal rows root = walk rows text-refusal root 0 (row-in rows 0 1)
 unfoldable pub tree-refusal : List Row → Element → Option Refusal
 tree-refusal rows root =
     rows-refusal rows root or-else limits-refusal root or-else values-refusal rows root or-else usage-refusal root or-else
-    ids-refusal root or-else total-refusal root or-else counts-refusal root
-
-unfoldable pub of-reading : List Row → Reading → Outcome
-of-reading rows (stops-at n) = refused-as (record { number = 2; element = 0; offset = n })
-of-reading rows (root-is root) = unless-refused (tree-refusal rows root) (accepted-with root)
+    ids-refusal root or-else counts-refusal root
 
 unfoldable pub outcome-alone : List Row → List ℕ → Outcome
-outcome-alone rows s = unless-refused (size-refusal s) (of-reading rows (read s))
+outcome-alone rows s = unless-refused (size-refusal s) (of-reading (tree-refusal rows) (read s))
 
 unfoldable pub outcome : List Row → (table-length : ℕ) → List ℕ → Outcome
 outcome rows n s = unless-refused (table-refusal n) (outcome-alone rows s)

@@ -1,10 +1,10 @@
--- The six numbers of an answer to a regrouping: k only for 18 to 20, a field only for 20, a message's refusal with neither; number 0 is acceptance.
+-- The six numbers of an answer to a regrouping: k only for 18 to 20, a field only for 20, a message's refusal, by a number of some stage, with neither; number 0 is acceptance.
 use Prim.Native.Nat.{ℕ, suc, _<_}
 use native.Mathlib.Omega.{arith}
 use mathlib.Core.List.{List, [], _∷_, List·Memᴰ, List·Memᴰ·head, List·Memᴰ·tail}
 use mathlib.Core.Bool.{Bool, true, false, not}
 use mathlib.Core.Option.{Option, none, some}
-use mathlib.Core.Path.{_≡_, refl, ap}
+use mathlib.Core.Path.{_≡_, refl, ap, subst}
 use mathlib.Core.Logic.{_↔_}
 use lib.ListN.{length, getD}
 use lib.Dec.{eqb, ltb}
@@ -15,12 +15,13 @@ use Rattle.paper.specs.Refusals.{Refusal, Outcome, refused-as, accepted-with, o
 use Rattle.paper.specs.Accepted.{All}
 use Rattle.paper.specs.Fields.{Value, differ-from}
 use Rattle.paper.specs.Regrouping.{RegroupingAnswer, message-refused, answered, ordinals-of, pairing, of-payments, all-values, of-outcomes, regrouping, Regroups}
+use Rattle.paper.specs.Order.{Stage, numbers}
 use Rattle.paper_acceptance.proofs.Proper.{Proper, new-proper}
-use Rattle.paper_acceptance.proofs.Order.{not-zero}
+use Rattle.paper_acceptance.proofs.Order.{no-stage, zero-at-none, alone-of-a-stage}
 use Rattle.paper_pairing.proofs.Regroups.{regroups-exactly}
 
 pub data SixNumbers : RegroupingAnswer → Type 0 where
-  of-a-message : (whose : ℕ) (r : Refusal) → List·Memᴰ whose (1 ∷ 2 ∷ []) → (r .number ≡ 0 → ⊥) → SixNumbers (message-refused whose r)
+  of-a-message : (whose : ℕ) (r : Refusal) → List·Memᴰ whose (1 ∷ 2 ∷ []) → (stage : Stage) → List·Memᴰ (r .number) (numbers stage) → SixNumbers (message-refused whose r)
   of-no-pair : (n : ℕ) → List·Memᴰ n (0 ∷ 15 ∷ 16 ∷ 17 ∷ []) → SixNumbers (answered n 0 0)
   of-a-pair : (n k : ℕ) → List·Memᴰ n (18 ∷ 19 ∷ []) → SixNumbers (answered n k 0)
   of-a-field : (k field : ℕ) → SixNumbers (answered 20 k field)
@@ -73,14 +74,16 @@ module _ (profile : Profile) (proper : Proper profile) (first second file : List
   six-numbers = go (outcome-alone profile first) refl (outcome-alone (as-new profile) second) refl
     where
       go : (o : Outcome) → outcome-alone profile first ≡ o → (q : Outcome) → outcome-alone (as-new profile) second ≡ q → SixNumbers (of-outcomes o q file)
-      go (refused-as r) e q f = of-a-message 1 r (List·Memᴰ·head refl) (not-zero profile proper first e)
-      go (accepted-with t) e (refused-as r) f = of-a-message 2 r (List·Memᴰ·tail (List·Memᴰ·head refl)) (not-zero (as-new profile) (new-proper proper) second f)
+      go (refused-as r) e q f = let g = alone-of-a-stage profile proper first e in of-a-message 1 r (List·Memᴰ·head refl) (g .0) (g .1)
+      go (accepted-with t) e (refused-as r) f =
+          let g = alone-of-a-stage (as-new profile) (new-proper proper) second f in
+          of-a-message 2 r (List·Memᴰ·tail (List·Memᴰ·head refl)) (g .0) (g .1)
       go (accepted-with t) e (accepted-with u) f = payments-six (all-values t) (all-values u) file
 
   -- number 0 is acceptance
   zero-is : {a : RegroupingAnswer} → SixNumbers a → a .number ≡ 0 → a ≡ answered 0 0 0
   unfolding message-refused answered
-  zero-is (of-a-message w r m n) e = absurd (n e)
+  zero-is (of-a-message w r m stage n) e = no-stage zero-at-none stage (subst (λ (k : ℕ). List·Memᴰ k (numbers stage)) e n)
   zero-is (of-no-pair n m) e = ap (λ (n : ℕ). answered n 0 0) e
   zero-is (of-a-pair n k m) e = absurd (not-a-pair m e)
   zero-is (of-a-field k field) e = absurd (omega (arith, e))

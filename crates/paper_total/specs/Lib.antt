@@ -1,0 +1,2 @@
+-- The answers with refusal 21.
+pub mod With21
