@@ -133,14 +133,14 @@ block-counts-more b bs = or-joined _ _ _
 
 -- one block's count and sum, by its payments
 module _ (b : Element) (ps : List Payment) (from : ℕ) {to : ℕ} (many : to ≡ from + length ps) (owns : map (λ p. p .own) ps ≡ all-of 37 b) where
-  pub block-is : unless (λ w. eqb (number w) (to - from)) 12 14 (child 14 b) or-else unless (λ w. eqb (cents w) (amounts ps)) 13 15 (child 15 b)
-      ≡ block-refusal b
+  pub block-is : {sum : ℕ} → sum ≡ amounts ps
+      → unless (λ w. eqb (number w) (to - from)) 12 14 (child 14 b) or-else unless (λ w. eqb (cents w) sum) 13 15 (child 15 b) ≡ block-refusal b
   unfolding block-refusal
-  block-is =
+  block-is {sum} summed =
       let x : to - from ≡ length (all-of 37 b) = omega (arith, length-map ps (λ (p : Payment). p .own), ap length owns) in
-      ap (λ (n : ℕ). unless (λ w. eqb (number w) n) 12 14 (child 14 b) or-else unless (λ w. eqb (cents w) (amounts ps)) 13 15 (child 15 b)) x ∙
-      ap (λ (ts : List Element). unless (λ w. eqb (number w) (length (all-of 37 b))) 12 14 (child 14 b) or-else
-      unless (λ w. eqb (cents w) (sum-of ts)) 13 15 (child 15 b)) owns
+      ap (λ (n : ℕ). unless (λ w. eqb (number w) n) 12 14 (child 14 b) or-else unless (λ w. eqb (cents w) sum) 13 15 (child 15 b)) x ∙
+      ap (λ (n : ℕ). unless (λ w. eqb (number w) (length (all-of 37 b))) 12 14 (child 14 b) or-else
+      unless (λ w. eqb (cents w) n) 13 15 (child 15 b)) (summed ∙ ap sum-of owns)
 
 -- what `block_end` and `in_block` answer
 abbrev pub EndsAt : (order : List ℕ) (k from n to : ℕ) → Type 0

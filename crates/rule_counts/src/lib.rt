@@ -2,7 +2,6 @@
 use paper::Fault;
 use paper::Finding;
 use rule_limits::Order;
-use rule_totals::Sum;
 use tree::Tree;
 use tree_routes::Found;
 ghost use mathlib.Core.Path.{_≡_};
@@ -21,7 +20,6 @@ ghost use Rattle.tree.specs.Laid.{LaidAt};
 ghost use Rattle.tree_routes.specs.Finds.{Finds};
 ghost use Rattle.rule_limits.specs.Ordered.{PaymentsAt, Ordered};
 ghost use Rattle.tree_leaves.specs.Readable.{ReadCount, ReadMoney, ReadBlock, ReadPayment, Readable};
-ghost use Rattle.rule_totals.specs.Totals.{Sums};
 ghost use Rattle.rule_counts.specs.Counted.{InBlock, BehindBlock, BlocksFrom, block-refusal, header-refusal};
 
 // The first of two findings that refuses.
@@ -53,20 +51,9 @@ fn count_is(s: &[u8], tree: &Tree, found: Found, row: usize, n: usize) -> Findin
     })
 }
 
-// The two are one number of cents.
-fn same_cents(cents: u64, sum: Sum) -> bool
-    ensures { λ r. ⌜ ((n : ℕ) → Sums n sum → r ≡ eqb cents n) ⌝ }
-{
-    match sum {
-        Sum::Cents(n) => cents == n,
-        Sum::TooLarge => false,
-    }
-}
-
 // 13: the sum that was found is not this one.
-fn sum_is(s: &[u8], tree: &Tree, found: Found, row: usize, sum: Sum) -> Finding
-    ensures { λ r. ⌜ ((o : Option Element) (n : ℕ) → Finds (now (s .entry)) (now (tree .entry)) o found → ReadMoney o → Sums n sum
-        → refusal-found r ≡ unless (λ w. eqb (cents w) n) 13 row o) ⌝ }
+fn sum_is(s: &[u8], tree: &Tree, found: Found, row: usize, sum: u64) -> Finding
+    ensures { λ r. ⌜ ((o : Option Element) → Finds (now (s .entry)) (now (tree .entry)) o found → ReadMoney o → refusal-found r ≡ unless (λ w. eqb (cents w) sum) 13 row o) ⌝ }
 {
     let Found::At(i) = found else {
         return Finding::Refused(Fault::SumDiffers {
@@ -74,7 +61,7 @@ fn sum_is(s: &[u8], tree: &Tree, found: Found, row: usize, sum: Sum) -> Finding
             offset: 0,
         });
     };
-    if same_cents(tree_leaves::cents_at(s, tree, i), sum) {
+    if tree_leaves::cents_at(s, tree, i) == sum {
         return Finding::Nothing;
     }
     Finding::Refused(Fault::SumDiffers {
@@ -146,7 +133,7 @@ fn in_header(s: &[u8], tree: &Tree, payments: usize, total: u64) -> Finding
     let stated_count = tree_routes::follow(tree, Found::At(0), &[2, 3, 6]);
     let count_found = count_is(s, tree, stated_count, 6, payments);
     let stated_sum = tree_routes::follow(tree, Found::At(0), &[2, 3, 7]);
-    let sum_found = sum_is(s, tree, stated_sum, 7, Sum::Cents(total));
+    let sum_found = sum_is(s, tree, stated_sum, 7, total);
     first_found(count_found, sum_found)
 }
 

@@ -1,22 +1,19 @@
 -- The amount of a payment, and the exact sum of amounts, payment after payment.
-use Prim.Native.Nat.{ℕ, _+_, _-_, _^_, _≤_, _<_}
+use Prim.Native.Nat.{ℕ, _+_, _-_, _≤_, _<_}
 use mathlib.Core.List.{List, [], _∷_, map}
-use mathlib.Core.Option.{Option, none, some}
-use mathlib.Core.Bool.{true, false}
+use mathlib.Core.Option.{Option, some}
+use mathlib.Core.Bool.{true}
 use mathlib.Core.Path.{_≡_, refl, sym, ap, _∙_, subst}
 use native.Mathlib.Omega.{arith}
 use lib.ListN.{length}
-use lib.Dec.{eqb}
-use borrow.Author.Tests.{ne-eqb, lt-ltb, le-ltb}
 use Rattle.paper.specs.Bytes.{every}
 use Rattle.paper.specs.Form.{Element}
 use Rattle.paper.specs.Values.{cents, money}
-use Rattle.paper.specs.Payments.{Payment, text-of, follow, header-sum, instructed-amount, payments, amount-of, sum-of, total}
-use Rattle.paper.specs.Refusals.{refuse, at-of, total-refusal}
+use Rattle.paper.specs.Payments.{Payment, text-of, follow, instructed-amount, amount-of, sum-of}
 use Rattle.paper.specs.Accepted.{All, all-more}
+use Rattle.paper.proofs.Laws.{amount-is, no-amount}
 use Rattle.form_names.specs.Names.{is-sought}
 use Rattle.tree.specs.Laid.{LaidAt}
-use Rattle.tree.proofs.Laws.{Cell, at-cell, entry-at}
 use Rattle.tree_routes.specs.Finds.{Finds, found-at, onward}
 use Rattle.tree_routes.specs.declared.Found.{Found}
 use Rattle.tree_routes.specs.declared.Found.the-variants.{At, Nothing}
@@ -26,10 +23,6 @@ use Rattle.rule_limits.specs.declared.PaymentAt.{PaymentAt}
 use Rattle.rule_limits.specs.Ordered.{PaymentsAt, payment-in}
 use Rattle.rule_limits.proofs.First.{FirstPayment, first-payment, no-payment-left, payment-there, one-fewer}
 use Rattle.tree_leaves.specs.Readable.{ReadMoney, ReadPayment}
-use Rattle.rule_totals.specs.declared.Sum.{Sum}
-use Rattle.rule_totals.specs.declared.Sum.the-variants as sum
-use Rattle.rule_totals.specs.declared.Total.the-variants as totalled
-use Rattle.rule_totals.specs.Totals.{Sums, sums-to, sums-above, Totals, total-is, total-above}
 
 -- what `follow` finds from an element that is laid out
 pub route-found : {s tree : List ℕ} {i : ℕ} {f : Found} (route : List ℕ) {t : Element} → every is-sought route ≡ true → LaidAt s tree i t
@@ -38,39 +31,16 @@ route-found {s} {tree} {f = f} route {t} rows l h =
     subst (λ (o : Option Element). Finds s tree o f) (onward-some route t) (h (some t) rows (found-at l))
 
 -- the amount of a payment, by what was found
-amount-at : Option Element → ℕ
-amount-at none = 0
-amount-at (some u) = cents (text-of u)
-
-amount-is : (t : Element) → amount-of t ≡ amount-at (instructed-amount t)
-unfolding amount-of amount-at
-amount-is t = go (instructed-amount t)
-  where
-    go : (o : Option Element) → _≡_ {A = ℕ} (elim o [ none ↦ 0 | some u ↦ cents (text-of u) ]) (amount-at o)
-    go none = refl
-    go (some u) = refl
-
 module _ {s tree : List ℕ} {f : Found} where
   pub amount-absent : (t : Element) → Finds s tree (instructed-amount t) f → f ≡ Nothing → 0 ≡ amount-of t
-  unfolding amount-at
-  amount-absent t found e = sym (amount-is t ∙ ap amount-at (found-none found e))
+  amount-absent t found e = sym (no-amount t (found-none found e))
 
   pub amount-there : (t : Element) {i r : ℕ} → Finds s tree (instructed-amount t) f → f ≡ At i
       → ((u : Element) → LaidAt s tree i u → money (text-of u) ≡ true → r ≡ cents (text-of u))
       → ReadMoney (instructed-amount t) → r ≡ amount-of t
-  unfolding amount-at
   amount-there t found e h read =
       let u = found-some found e in
-      h (u .it) (u .laid) (read (u .it) (u .is-it)) ∙ sym (amount-is t ∙ ap amount-at (u .is-it))
-
-  -- where that stands which was found
-  pub at-nothing : {o : Option Element} → Finds s tree o f → f ≡ Nothing → 0 ≡ at-of o
-  unfolding at-of
-  at-nothing found e = sym (ap at-of (found-none found e))
-
-  pub at-it : {o : Option Element} {i r : ℕ} → Finds s tree o f → f ≡ At i → Cell tree i 0 r → r ≡ at-of o
-  unfolding at-of
-  at-it found e c = let u = found-some found e in at-cell (entry-at (u .laid)) c ∙ sym (ap at-of (u .is-it))
+      h (u .it) (u .laid) (read (u .it) (u .is-it)) ∙ sym (amount-is t (u .is-it))
 
 -- the first of a list and the others have what all have
 module _ {A : Type 0} {P : A → Type 0} {a : A} {rest : List A} where
@@ -136,38 +106,7 @@ module _ {s tree order : List ℕ} {ps : List Payment} where
           sum-is = with-one f ∙ x;
         }
 
-    pub sum-exceeds : done < 2 ^ 64 → 18446744073709551615 - done < r → Sums (amounts ps) sum.TooLarge
-    sum-exceeds b c =
-        let f = first-payment (w .rest-at) (w .rest-many) h in
-        sums-above (omega (arith, with-one f))
-
-  pub sum-ends : {done k n : ℕ} → Summing s tree order ps done k n → n ≤ k → done < 2 ^ 64 → Sums (amounts ps) (sum.Cents done)
-  sum-ends {done} w h b =
+  pub sum-ends : {done k n : ℕ} → Summing s tree order ps done k n → n ≤ k → done ≡ amounts ps
+  sum-ends {done} w h =
       let x : amounts (w .rest) ≡ 0 = ap amounts (no-payment-left (w .rest-at) (w .rest-many) h) ∙ amounts-none in
-      (let y : amounts ps ≡ done = omega (arith, w .sum-is, x) in sums-to y b)
-
--- the total, by the sum of all payments
-module _ {root : Element} where
-  pub total-fits : {a : Sum} {n : ℕ} → Sums (amounts (payments root)) a → a ≡ sum.Cents n → Totals root (totalled.Cents n)
-  unfolding total total-refusal
-  total-fits {n = n} (sums-to {m} e b) d =
-      let x : m ≡ n = cc in
-      let y : amounts (payments root) < 2 ^ 64 = omega arith in
-      total-is (rw (lt-ltb (amounts (payments root)) (2 ^ 64) y)) (e ∙ x)
-  total-fits (sums-above h) d = let z : _≡_ {A = ℕ} 0 1 = cc in absurd (omega (arith, z))
-
-  pub total-exceeds : {a : Sum} {at : ℕ} → Sums (amounts (payments root)) a → a ≡ sum.TooLarge → at ≡ at-of (header-sum root)
-      → Totals root (totalled.TooLarge at)
-  unfolding total total-refusal
-  total-exceeds (sums-to e b) d f = let z : _≡_ {A = ℕ} 0 1 = cc in absurd (omega (arith, z))
-  total-exceeds {at = at} (sums-above h) d f = total-above {offset = at} (rw (le-ltb (amounts (payments root)) (2 ^ 64) h) (ap (refuse 21 7) (sym f)))
-
--- one number of cents and a sum
-module _ {n : ℕ} (c : ℕ) where
-  pub same-number : {a : Sum} {m : ℕ} → Sums n a → a ≡ sum.Cents m → eqb c m ≡ eqb c n
-  same-number {m = m} (sums-to {m = k} e b) d = let x : k ≡ m = cc in ap (eqb c) (sym x ∙ sym e)
-  same-number (sums-above h) d = let z : _≡_ {A = ℕ} 0 1 = cc in absurd (omega (arith, z))
-
-  pub never-same : {a : Sum} → Sums n a → a ≡ sum.TooLarge → c < 2 ^ 64 → false ≡ eqb c n
-  never-same (sums-to e b) d h = let z : _≡_ {A = ℕ} 0 1 = cc in absurd (omega (arith, z))
-  never-same (sums-above k) d h = sym (ne-eqb c n (λ e. absurd (omega arith)))
+      omega (arith, w .sum-is, x)

@@ -1,35 +1,21 @@
-// The sum of amounts, exact, and refusal 21.
+// The amount of a payment, and the sum of amounts, exact.
 use rule_limits::Order;
 use tree::Tree;
 use tree_routes::Found;
 ghost use mathlib.Core.Path.{_≡_};
 ghost use mathlib.Core.List.{List, [], _∷_, map};
-ghost use Prim.Native.Nat.{ℕ, _+_, _≤_};
+ghost use Prim.Native.Nat.{_+_, _≤_, _<_, _^_};
 ghost use lib.ListN.{length};
 ghost use Rattle.paper.specs.Form.{Element};
-ghost use Rattle.paper.specs.Payments.{Payment, follow, of-header, payments as all-payments, amount-of, sum-of};
-ghost use Rattle.paper.specs.Refusals.{at-of};
+ghost use Rattle.paper.specs.Payments.{Payment, follow, amount-of, sum-of};
 ghost use Rattle.paper.specs.Accepted.{All};
 ghost use Rattle.tree.specs.Laid.{LaidAt};
-ghost use Rattle.rule_limits.specs.Ordered.{PaymentsAt, Ordered};
-ghost use Rattle.tree_leaves.specs.Readable.{ReadMoney, ReadPayment, Readable};
-ghost use Rattle.rule_totals.specs.Totals.{Sums, Totals};
+ghost use Rattle.rule_limits.specs.Ordered.{PaymentsAt};
+ghost use Rattle.tree_leaves.specs.Readable.{ReadMoney, ReadPayment};
 
-// A sum of amounts, exact.
-pub enum Sum {
-    Cents(u64),
-    TooLarge,
-}
-
-// The total of a message's amounts, or refusal 21 with its offset.
-pub enum Total {
-    Cents(u64),
-    TooLarge { offset: usize },
-}
-
-// The instructed amount of the payment at element `own`, in cents.
+// The instructed amount of the payment at element `own`, in cents; below 10^17 whatever is given.
 pub fn amount(s: &[u8], tree: &Tree, own: usize) -> u64
-    ensures { λ r. ⌜ ((t : Element) → LaidAt (now (s .entry)) (now (tree .entry)) own t → ReadMoney (follow (41 ∷ 42 ∷ []) t) → r ≡ amount-of t) ⌝ }
+    ensures { λ r. ⌜ (r < 10 ^ 17) × ((t : Element) → LaidAt (now (s .entry)) (now (tree .entry)) own t → ReadMoney (follow (41 ∷ 42 ∷ []) t) → r ≡ amount-of t) ⌝ }
 {
     let found = tree_routes::follow(tree, Found::At(own), &[41, 42]);
     match found {
@@ -38,46 +24,20 @@ pub fn amount(s: &[u8], tree: &Tree, own: usize) -> u64
     }
 }
 
-// The sum of the amounts of the payments from one up to another.
-pub fn sum_of(s: &[u8], tree: &Tree, order: &Order, from: usize, to: usize) -> Sum
+// The sum of the amounts of the payments from one up to another; 0 where that lies past the 64th, the limit of a message. So at most 64 amounts below 10^17 are added: no addition
+// overflows, whatever is given.
+pub fn sum_of(s: &[u8], tree: &Tree, order: &Order, from: usize, to: usize) -> u64
     ensures { λ r. ⌜ ((ps : List Payment) → PaymentsAt (now (s .entry)) (now (tree .entry)) (now (order .entry)) from ps → to ≡ from + length ps → to ≤ 64
-        → All ReadPayment ps → Sums (sum-of (map (λ p. p .own) ps)) r) ⌝ }
+        → All ReadPayment ps → r ≡ sum-of (map (λ p. p .own) ps)) ⌝ }
 {
+    if paper::MOST_PAYMENTS < to {
+        return 0;
+    }
     let mut sum: u64 = 0;
     let mut k = from;
     while k < to {
-        let cents = amount(s, tree, rule_limits::payment(order, k).own);
-        if 18446744073709551615 - sum < cents {
-            return Sum::TooLarge;
-        }
-        sum += cents;
+        sum += amount(s, tree, rule_limits::payment(order, k).own);
         k += 1;
     }
-    Sum::Cents(sum)
-}
-
-// Where row 7 stands.
-fn header_sum_at(tree: &Tree) -> usize
-    ensures { λ r. ⌜ ((s : List ℕ) (root : Element) → LaidAt s (now (tree .entry)) 0 root → r ≡ at-of (of-header 7 root)) ⌝ }
-{
-    let found = tree_routes::follow(tree, Found::At(0), &[2, 3, 7]);
-    match found {
-        Found::Nothing => 0,
-        Found::At(i) => tree::cell(tree, i, 0),
-    }
-}
-
-// 21: the total of the amounts, where it is not above 64 bits.
-pub fn total_refusal(s: &[u8], tree: &Tree, order: &Order, payments: usize) -> Total
-    ensures { λ r. ⌜ ((root : Element) → LaidAt (now (s .entry)) (now (tree .entry)) 0 root
-        → Ordered (now (s .entry)) (now (tree .entry)) (now (order .entry)) root → payments ≡ length (all-payments root) → payments ≤ 64 → Readable root
-        → Totals root r) ⌝ }
-{
-    let sum = sum_of(s, tree, order, 0, payments);
-    match sum {
-        Sum::Cents(cents) => Total::Cents(cents),
-        Sum::TooLarge => Total::TooLarge {
-            offset: header_sum_at(tree),
-        },
-    }
+    sum
 }

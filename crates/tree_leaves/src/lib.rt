@@ -3,7 +3,7 @@ use leaf_numbers::Reading;
 use tree::Tree;
 ghost use mathlib.Core.Path.{_≡_};
 ghost use mathlib.Core.Bool.{true};
-ghost use Prim.Native.Nat.{ℕ};
+ghost use Prim.Native.Nat.{ℕ, _<_, _^_};
 ghost use Rattle.paper.specs.Bytes.{bytes};
 ghost use Rattle.paper.specs.Form.{Head, Element};
 ghost use Rattle.paper.specs.Values.{number, cents, digits, money};
@@ -68,9 +68,9 @@ pub fn count_at(s: &[u8], tree: &Tree, i: usize) -> u64
     }
 }
 
-// The cents of the money that element i holds.
+// The cents of the money that element i holds; below 10^17 whatever is given.
 pub fn cents_at(s: &[u8], tree: &Tree, i: usize) -> u64
-    ensures { λ r. ⌜ ((t : Element) → LaidAt (now (s .entry)) (now (tree .entry)) i t → money (text-of t) ≡ true → r ≡ cents (text-of t)) ⌝ }
+    ensures { λ r. ⌜ (r < 10 ^ 17) × ((t : Element) → LaidAt (now (s .entry)) (now (tree .entry)) i t → money (text-of t) ≡ true → r ≡ cents (text-of t)) ⌝ }
 {
     match leaf_money::money_cents(text(s, tree, i)) {
         Reading::Not => 0,

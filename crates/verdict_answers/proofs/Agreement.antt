@@ -9,7 +9,7 @@ use Rattle.paper.specs.Refusals.{Refusal, MessageAnswer, refused, accepted}
 use Rattle.paper.specs.Regrouping.{RegroupingAnswer, message-refused, answered}
 use Rattle.paper.specs.Answers.{numbered, refusal-of, refusal-found, verdict-says, regrouping-says}
 use Rattle.paper.specs.declared.Fault.{Fault}
-use Rattle.paper.specs.declared.Fault.the-variants.{TableTooShort, MessageTooLong, NotOfTheForm, NotAllowedThere, Missing, TooMany, EmptyOrTooLong, CharacterNotInTheSet, ValueNotAllowed, Withdrawn, InPaymentAndBlock, InNeither, BlockIdRepeated, TotalTooLarge, CountDiffers, SumDiffers}
+use Rattle.paper.specs.declared.Fault.the-variants.{TableTooShort, MessageTooLong, NotOfTheForm, NotAllowedThere, Missing, TooMany, EmptyOrTooLong, CharacterNotInTheSet, ValueNotAllowed, Withdrawn, InPaymentAndBlock, InNeither, BlockIdRepeated, CountDiffers, SumDiffers}
 use Rattle.paper.specs.declared.Finding.{Finding}
 use Rattle.paper.specs.declared.Finding.the-variants as finding
 use Rattle.paper.specs.declared.Verdict.{Verdict}
@@ -37,7 +37,6 @@ fault-by number element offset =
     if eqb number 9 then InPaymentAndBlock element offset else
     if eqb number 10 then InNeither offset else
     if eqb number 11 then BlockIdRepeated offset else
-    if eqb number 21 then TotalTooLarge offset else
     if eqb number 12 then CountDiffers element offset else SumDiffers element offset
 
 fault-again : (f : Fault) → fault-by (refusal-of f .number) (refusal-of f .element) (refusal-of f .offset) ≡ f
@@ -55,7 +54,6 @@ fault-again (Withdrawn element offset) = refl
 fault-again (InPaymentAndBlock element offset) = refl
 fault-again (InNeither offset) = refl
 fault-again (BlockIdRepeated offset) = refl
-fault-again (TotalTooLarge offset) = refl
 fault-again (CountDiffers element offset) = refl
 fault-again (SumDiffers element offset) = refl
 
@@ -91,7 +89,6 @@ no-zero (Withdrawn e o) = refl
 no-zero (InPaymentAndBlock e o) = refl
 no-zero (InNeither o) = refl
 no-zero (BlockIdRepeated o) = refl
-no-zero (TotalTooLarge o) = refl
 no-zero (CountDiffers e o) = refl
 no-zero (SumDiffers e o) = refl
 

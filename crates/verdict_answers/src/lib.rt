@@ -40,7 +40,6 @@ pub fn refusal_of(fault: Fault) -> Refusal
         Fault::InPaymentAndBlock { element, offset } => at(9, element, offset),
         Fault::InNeither { offset } => at(10, 16, offset),
         Fault::BlockIdRepeated { offset } => at(11, 11, offset),
-        Fault::TotalTooLarge { offset } => at(21, 7, offset),
         Fault::CountDiffers { element, offset } => at(12, element, offset),
         Fault::SumDiffers { element, offset } => at(13, element, offset),
     }

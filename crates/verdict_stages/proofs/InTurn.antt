@@ -10,11 +10,11 @@ use Rattle.paper.specs.Form.{Element}
 use Rattle.paper.specs.Computed.Reading.{read, root-is, stops-at}
 use Rattle.paper.specs.Rows.{Profile}
 use Rattle.paper.specs.Payments.{blocks, payments, total}
-use Rattle.paper.specs.Refusals.{Refusal, refuse, _or-else_, size-refusal, refused-as, accepted-with, unless-refused, of-reading, outcome-alone, answer-to, tree-refusal, rows-refusal, limits-refusal, values-refusal, total-refusal, counts-refusal}
+use Rattle.paper.specs.Refusals.{Refusal, refuse, _or-else_, size-refusal, refused-as, accepted-with, unless-refused, of-reading, outcome-alone, answer-to, tree-refusal, rows-refusal, limits-refusal, values-refusal, counts-refusal}
 use Rattle.paper.specs.Answers.{refusal-of, numbered, refusal-found, verdict-says}
 use Rattle.verdict_answers.proofs.Agreement.{one-verdict}
 use Rattle.paper.specs.declared.Fault.{Fault}
-use Rattle.paper.specs.declared.Fault.the-variants.{MessageTooLong, NotOfTheForm, TooMany, TotalTooLarge}
+use Rattle.paper.specs.declared.Fault.the-variants.{MessageTooLong, NotOfTheForm, TooMany}
 use Rattle.paper.specs.declared.Finding.{Finding}
 use Rattle.paper.specs.declared.Finding.the-variants as finding
 use Rattle.paper.specs.declared.Verdict.{Verdict}
@@ -23,15 +23,12 @@ use Rattle.tree.specs.Laid.{LaidAt}
 use Rattle.rule_limits.specs.Ordered.{Ordered, Few, Limited, is-within, is-excess}
 use Rattle.rule_limits.specs.declared.Limits.{Limits}
 use Rattle.rule_limits.specs.declared.Limits.the-variants.{Within, Excess}
-use Rattle.rule_totals.specs.Totals.{Totals, total-is, total-above}
-use Rattle.rule_totals.specs.declared.Total.{Total}
-use Rattle.rule_totals.specs.declared.Total.the-variants as totalled
 use Rattle.form.specs.Promise.{LaidOut, FormPromise}
 use Rattle.form.specs.declared.Form.{Form}
 use Rattle.form.specs.declared.Form.the-variants.{OfTheForm, RefusedAt}
 use Rattle.paper_grammar.proofs.Decides.{refusal-is-stop}
 use Rattle.paper_grammar.proofs.Complete.{complete}
-use Rattle.verdict_stages.specs.Decided.{from-total, from-values, Passes, refuses, accepts, Decided, decided-refused, decided-accepted}
+use Rattle.verdict_stages.specs.Decided.{from-values, Passes, refuses, accepts, Decided, decided-refused, decided-accepted}
 use Rattle.verdict_stages.proofs.Readable.{readable}
 use Rattle.paper_acceptance.proofs.Proper.{Proper}
 use Rattle.paper_acceptance.proofs.OneWalk.{rows-first}
@@ -70,43 +67,24 @@ module _ {s tree order : List ℕ} {root : Element} {f : Finding} (a b : Option 
   unfolding _or-else_
   later-passes d h = rw (found-none is d) h
 
--- 21, then 12 and 13
-total-answers : {root : Element} {t : Total} {offset : ℕ} → Totals root t → t ≡ totalled.TooLarge offset → total-refusal root ≡ some (refusal-of (TotalTooLarge offset))
-unfolding refuse refusal-of numbered
-total-answers {root} (total-is e n) d = let z : _≡_ {A = ℕ} 0 1 = cc in absurd (omega (arith, z))
-total-answers {root} {offset = offset} (total-above {offset = o} e) d = let f : o ≡ offset = cc in e ∙ ap (λ (n : ℕ). refuse 21 7 n) f
+-- 12 and 13
+module _ {s tree order : List ℕ} {root : Element} {f : Finding} (is : refusal-found f ≡ counts-refusal root) where
+  pub counts-refused : {x : Fault} → f ≡ finding.Refused x → Passes s tree order root (counts-refusal root) (Refused x)
+  counts-refused {x} d = refuses {f = x} (found-refused is d)
 
-total-fits : {root : Element} {t : Total} {n : ℕ} → Totals root t → t ≡ totalled.Cents n → (total-refusal root ≡ none) × (n ≡ total root)
-total-fits {root} {n = n} (total-is {n = m} e f) d = let g : m ≡ n = cc in (e, sym g ∙ sym f)
-total-fits (total-above e) d = let z : _≡_ {A = ℕ} 0 1 = cc in absurd (omega (arith, z))
-
-module _ {s tree order : List ℕ} {root : Element} {t : Total} (h : Totals root t) where
-  pub total-refused : {offset : ℕ} → t ≡ totalled.TooLarge offset → Passes s tree order root (from-total root) (Refused (TotalTooLarge offset))
-  unfolding _or-else_
-  total-refused {offset} e = refuses {f = TotalTooLarge offset} (rw (total-answers h e))
-
-  module _ {n : ℕ} {f : Finding} (e : t ≡ totalled.Cents n) (is : refusal-found f ≡ counts-refusal root) where
-    pub counts-refused : {x : Fault} → f ≡ finding.Refused x → Passes s tree order root (from-total root) (Refused x)
-    unfolding _or-else_
-    counts-refused {x} d = refuses {f = x} (rw (total-fits h e .0) (found-refused is d))
-
-    pub all-passed : {profile : Profile} → Proper profile → {b p : ℕ} → f ≡ finding.Nothing → Ordered s tree order root → b ≡ length (blocks root) → p ≡ length (payments root) → p ≤ 64 → b ≤ 16
-        → values-refusal profile root ≡ none → Passes s tree order root (from-total root) (Accepted b p n)
-    unfolding _or-else_
-    all-passed proper {b} {p} d o x y few small v =
-        accepts (rw (total-fits h e .0) (found-none is d))
-        (record {
-          ordered = o;
-          blocks-are = x;
-          payments-are = y;
-          few = few;
-          total-is = total-fits h e .1;
-          readable = readable proper root v;
-          fitting = fits proper root v (omega (arith, x, small));
-        })
-
-pub the-total : {root : Element} {t : Total} {n : ℕ} → Totals root t → t ≡ totalled.Cents n → n ≡ total root
-the-total h e = total-fits h e .1
+  pub all-passed : {profile : Profile} → Proper profile → {b p c : ℕ} → f ≡ finding.Nothing → Ordered s tree order root → b ≡ length (blocks root) → p ≡ length (payments root) → p ≤ 64 → b ≤ 16
+      → values-refusal profile root ≡ none → c ≡ total root → Passes s tree order root (counts-refusal root) (Accepted b p c)
+  all-passed proper d o x y few small v total-is =
+      accepts (found-none is d)
+      (record {
+        ordered = o;
+        blocks-are = x;
+        payments-are = y;
+        few = few;
+        total-is = total-is;
+        readable = readable proper root v;
+        fitting = fits proper root v (omega (arith, x, small));
+      })
 
 pub no-values-refusal : (profile : Profile) (root : Element) {f : Finding} → refusal-found f ≡ values-refusal profile root → f ≡ finding.Nothing → values-refusal profile root ≡ none
 no-values-refusal profile root e d = found-none e d

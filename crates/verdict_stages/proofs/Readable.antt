@@ -1,28 +1,26 @@
 -- Where the walk of 6 to 8 refuses nothing, counts, sums and amounts can be read as numbers.
-use Prim.Native.Nat.{ℕ, _≤_}
-use Prim.Native.String.{String}
-use mathlib.Core.List.{List, [], _∷_}
+use Prim.Native.Nat.{ℕ}
+use mathlib.Core.List.{List}
 use mathlib.Core.Bool.{true}
 use mathlib.Core.Option.{none, some}
-use mathlib.Core.Path.{_≡_, refl, sym, ap, subst, _∙_}
-use borrow.Author.Tests.{le-leb, leb-true}
+use mathlib.Core.Path.{_≡_, refl, sym, _∙_}
+use borrow.Author.Tests.{le-leb}
 use native.Mathlib.Omega.{arith}
 use lib.ListN.{length}
 use lib.Dec.{leb}
-use Rattle.paper.specs.Bytes.{bytes, every, digit, same}
+use Rattle.paper.specs.Bytes.{every, digit, same}
 use Rattle.paper.specs.Form.{Head, Element}
-use Rattle.paper.specs.Rows.{Row, text, leaf, Profile, longest-of}
-use Rattle.paper.specs.Values.{among, lies-from, digits, count, money, amount, cents, right-for}
-use Rattle.paper.specs.Payments.{Payment, text-of, follow, of-header, payments}
+use Rattle.paper.specs.Rows.{Row, leaf, Profile, longest-of}
+use Rattle.paper.specs.Values.{among, lies-from, digits, count, money, right-for}
+use Rattle.paper.specs.Payments.{text-of, of-header}
 use Rattle.paper.specs.Refusals.{values-refusal, among-texts}
-use Rattle.paper.specs.Accepted.{All, RightText, RightElement}
-use Rattle.paper.proofs.Laws.{both, both-left, both-right, all-map}
+use Rattle.paper.specs.Accepted.{RightText}
+use Rattle.paper.proofs.Laws.{both, both-right, all-map}
 use Rattle.paper_acceptance.proofs.Proper.{Proper, root-route, block-route}
-use Rattle.paper_acceptance.proofs.Present.{PaymentAs}
-use Rattle.paper_acceptance.proofs.RightValues.{right-value, RightAs, header-right, blocks-right, payments-right, block-leaf-right, amount-right}
+use Rattle.paper_acceptance.proofs.RightValues.{right-value, known, holds-of, amount-money, RightAs, header-right, blocks-right, block-leaf-right, amounts-right}
 use Rattle.tree_leaves.specs.Readable.{ReadBlock, Readable}
 
--- a right count of a row that takes at most fifteen bytes; right money; a right amount
+-- a right count of a row that takes at most fifteen bytes; right money
 count-read : (parent : ℕ) {r : Row} {h : Head} {w : List ℕ} → RightText parent r h w → longest-of (r .holds) ≡ 15
     → ((currency : List ℕ) → right-for parent (r .row) currency w ≡ count w) → digits 1 15 w ≡ true
 unfolding digits lies-from count
@@ -33,30 +31,7 @@ count-read parent {w = w} r l a =
 money-read : (parent : ℕ) {r : Row} {h : Head} {w : List ℕ} → RightText parent r h w → ((currency : List ℕ) → right-for parent (r .row) currency w ≡ money w) → money w ≡ true
 money-read parent {w = w} r a = sym (a _) ∙ right-value _ _ _ w (r .value)
 
-amount-read : {h : Head} {w : List ℕ} → RightText 41 (leaf 42 "InstdAmt" 18) h w → amount w ≡ true
-unfolding right-for leaf bytes among
-amount-read {h} {w} r = both-left (amount w) (same (h .currency) (bytes "EUR")) (right-value _ _ _ w (r .value))
-
-amount-money : (w : List ℕ) → amount w ≡ true → money w ≡ true
-unfolding amount
-amount-money w e = both-left (money w) _ e
-
-pub amount-small : (w : List ℕ) → amount w ≡ true → cents w ≤ 99999999999
-unfolding amount lies-from
-amount-small w e = leb-true (cents w) 99999999999 (both-right (leb 1 (cents w)) _ (both-right (money w) _ e))
-
--- a right text of a row that is known, and what that row holds
-known : {parent : ℕ} {r q : Row} {h : Head} {w : List ℕ} → r ≡ q → RightText parent r h w → RightText parent q h w
-known {parent} {h = h} {w = w} e c = subst (λ (r : Row). RightText parent r h w) e c
-
-holds-of : {r : Row} (row : ℕ) (name : String) (longest : ℕ) → r ≡ leaf row name longest → r .holds ≡ text longest
-unfolding leaf
-holds-of row name longest e = ap (λ (r : Row). r .holds) e
-
 module _ {profile : Profile} (proper : Proper profile) where
-  amount-of-payment : (p : Payment) → PaymentAs profile proper (RightElement (profile .withdrawn)) p → (u : Element) → follow (41 ∷ 42 ∷ []) (p .own) ≡ some u → amount (text-of u) ≡ true
-  amount-of-payment p c u e = amount-read (known (proper .amount-is) (amount-right profile proper (p .own) (c .own-as) 18 u (holds-of _ _ _ (proper .amount-is)) e))
-
   in-block : (b : Element) → RightAs profile proper 2 10 b → ReadBlock b
   unfolding right-for leaf among longest-of among-texts same
   in-block b c =
@@ -82,9 +57,5 @@ module _ {profile : Profile} (proper : Proper profile) where
           header-count = header-count;
           header-sum = header-sum;
           in-blocks = all-map in-block (blocks-right profile proper root right);
-          in-payments = all-map (λ p c. record { amount = λ u e. amount-money (text-of u) (amount-of-payment p c u e) }) (payments-right profile proper root right);
+          in-payments = all-map (λ p c. record { amount = λ u e. amount-money (text-of u) (c u e) }) (amounts-right profile proper root right);
         }
-
-    -- the amounts of the payments lie within row 42's limits
-    pub small-amounts : All (λ (p : Payment). (u : Element) → follow (41 ∷ 42 ∷ []) (p .own) ≡ some u → cents (text-of u) ≤ 99999999999) (payments root)
-    small-amounts = all-map (λ p c u e. amount-small (text-of u) (amount-of-payment p c u e)) (payments-right profile proper root right)

@@ -7,7 +7,7 @@ use lib.ListN.{length}
 use Rattle.paper.specs.Form.{Element}
 use Rattle.paper.specs.Rows.{Profile}
 use Rattle.paper.specs.Payments.{blocks, payments, total}
-use Rattle.paper.specs.Refusals.{Refusal, refused-as, accepted-with, outcome-alone, values-refusal, usage-refusal, ids-refusal, total-refusal, counts-refusal, _or-else_}
+use Rattle.paper.specs.Refusals.{Refusal, refused-as, accepted-with, outcome-alone, values-refusal, usage-refusal, ids-refusal, counts-refusal, _or-else_}
 use Rattle.paper.specs.Accepted.{All}
 use Rattle.paper.specs.Answers.{refusal-of}
 use Rattle.paper.specs.declared.Fault.{Fault}
@@ -28,12 +28,9 @@ pub record Placed (s tree order : List ℕ) (root : Element) (b p c : ℕ) : Typ
   pub readable : Readable root
   pub fitting : All Fitting (payments root)
 
--- the stages from one on: from 21, from 6 to 8 and 28
-abbrev pub from-total : Element → Option Refusal
-from-total root = total-refusal root or-else counts-refusal root
-
+-- the stages from 6 to 8 and 28 on
 abbrev pub from-values : Profile → Element → Option Refusal
-from-values profile root = values-refusal profile root or-else usage-refusal root or-else ids-refusal root or-else from-total root
+from-values profile root = values-refusal profile root or-else usage-refusal root or-else ids-refusal root or-else counts-refusal root
 
 -- the stages over the tree from one on, as the verdict says them
 pub data Passes (s tree order : List ℕ) (root : Element) (refusal : Option Refusal) : Verdict → Type 0 where

@@ -6,7 +6,6 @@ use paper::Profile;
 use paper::Verdict;
 use rule_limits::Limits;
 use rule_limits::Order;
-use rule_totals::Total;
 use tree::Tree;
 ghost use mathlib.Core.Path.{_≡_};
 ghost use mathlib.Core.Bool.{true};
@@ -15,34 +14,29 @@ ghost use Prim.Native.Nat.{_≤_, _<_};
 ghost use lib.ListN.{length};
 ghost use Rattle.paper.specs.Form.{Element};
 ghost use Rattle.paper.specs.Payments.{blocks as all-blocks, payments as all-payments};
-ghost use Rattle.paper.specs.Refusals.{tree-refusal, rows-refusal, values-refusal};
+ghost use Rattle.paper.specs.Refusals.{tree-refusal, rows-refusal, values-refusal, counts-refusal};
 ghost use Rattle.paper.specs.Answers.{profile-named, refusal-of, refusal-found};
 ghost use Rattle.paper.specs.declared.Profile as named;
 ghost use Rattle.tree.specs.Laid.{LaidAt};
 ghost use Rattle.rule_limits.specs.Ordered.{Ordered};
-ghost use Rattle.verdict_stages.specs.Decided.{from-total, from-values, Passes, Decided};
+ghost use Rattle.verdict_stages.specs.Decided.{from-values, Passes, Decided};
 
-// 21, then 12 and 13.
+// 12 and 13, with the total of the amounts.
 fn sums(s: &[u8], tree: &Tree, order: &Order, blocks: usize, payments: usize) -> Verdict
     ensures { λ r. ⌜ ((p : named.Profile) (root : Element) → LaidAt (now (s .entry)) (now (tree .entry)) 0 root
         → Ordered (now (s .entry)) (now (tree .entry)) (now (order .entry)) root → blocks ≡ length (all-blocks root) → payments ≡ length (all-payments root)
         → payments ≤ 64 → values-refusal (profile-named p) root ≡ none → blocks ≤ 16
-        → Passes (now (s .entry)) (now (tree .entry)) (now (order .entry)) root (from-total root) r) ⌝ }
+        → Passes (now (s .entry)) (now (tree .entry)) (now (order .entry)) root (counts-refusal root) r) ⌝ }
 {
-    let total = rule_totals::total_refusal(s, tree, order, payments);
-    match total {
-        Total::TooLarge { offset } => Verdict::Refused(Fault::TotalTooLarge { offset }),
-        Total::Cents(cents) => {
-            let found = rule_counts::counts_refusal(s, tree, order, blocks, payments, cents);
-            match found {
-                Finding::Refused(fault) => Verdict::Refused(fault),
-                Finding::Nothing => Verdict::Accepted {
-                    blocks,
-                    payments,
-                    cents,
-                },
-            }
-        }
+    let cents = rule_totals::sum_of(s, tree, order, 0, payments);
+    let found = rule_counts::counts_refusal(s, tree, order, blocks, payments, cents);
+    match found {
+        Finding::Refused(fault) => Verdict::Refused(fault),
+        Finding::Nothing => Verdict::Accepted {
+            blocks,
+            payments,
+            cents,
+        },
     }
 }
 

@@ -37,8 +37,8 @@ returns-3 c =
     λ o u f g x y.
     let t = found-some f (c .before .before .before .before .before .before .found1 .given .1) in
     let v = found-some g (c .before .before .before .found2 .given .1) in
-    let m = c .before .cents-at .ensures (t .it) (t .laid) (x (t .it) (t .is-it)) in
-    let n = c .cents-at2 .ensures (v .it) (v .laid) (y (v .it) (v .is-it)) in
+    let m = c .before .cents-at .ensures .1 (t .it) (t .laid) (x (t .it) (t .is-it)) in
+    let n = c .cents-at2 .ensures .1 (v .it) (v .laid) (y (v .it) (v .is-it)) in
     both-amounts (t .is-it) (v .is-it) m n
 
 pub same-cents-spec : {M : Type 1} → statement M

@@ -1,7 +1,6 @@
 use native.Mathlib.Omega.{arith}
 use mathlib.Core.Path.{refl, _∙_}
 use Rattle.form_names.specs.Names.{is-sought}
-use Rattle.rule_totals.proofs.Amounts.{amounts}
 use Rattle.rule_counts.proofs.EachBlock.{both-found, block-is}
 use borrow.Author.Needs.{needs}
 use Rattle.rule_counts.proofs.in_block.Statement.{statement}
@@ -30,7 +29,7 @@ first-found-requires c κs = search needs
 
 returns-2 : tie.Need-returns-2
 unfolding is-sought
-returns-2 c = λ b ps l a e f owns read reads. both-found _ _ _ (c .first-found .ensures) (c .before .before .before .before .count-is .ensures _ (c .before .before .before .before .before .child .ensures _ b refl l) (read .count)) (c .before .sum-is .ensures _ (amounts ps) (c .before .before .before .child2 .ensures _ b refl l) (read .sum) (c .before .before .sum-of .ensures ps a e f reads)) ∙ block-is b ps _ e owns
+returns-2 c = λ b ps l a e f owns read reads. both-found _ _ _ (c .first-found .ensures) (c .before .before .before .before .count-is .ensures _ (c .before .before .before .before .before .child .ensures _ b refl l) (read .count)) (c .before .sum-is .ensures _ (c .before .before .before .child2 .ensures _ b refl l) (read .sum)) ∙ block-is b ps _ e owns (c .before .before .sum-of .ensures ps a e f reads)
 
 pub in-block-spec : {M : Type 1} → statement M
 in-block-spec =

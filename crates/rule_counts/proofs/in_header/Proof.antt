@@ -4,7 +4,6 @@ use Rattle.paper.specs.Bytes.{every}
 use Rattle.paper.specs.Payments.{of-header}
 use Rattle.form_names.specs.Names.{is-sought}
 use Rattle.tree_routes.specs.Finds.{rows-in}
-use Rattle.rule_totals.specs.Totals.{sums-to}
 use Rattle.rule_totals.proofs.Amounts.{route-found}
 use Rattle.rule_counts.specs.Counted.{header-refusal}
 use Rattle.rule_counts.proofs.EachBlock.{both-found}
@@ -35,7 +34,7 @@ first-found-requires c κs = search needs
 
 returns : tie.Need-returns
 unfolding rows-in every is-sought of-header header-refusal
-returns c = λ root l count sum. both-found _ _ _ (c .first-found .ensures) (c .before .before .before .before .count-is .ensures _ (route-found (2 ∷ 3 ∷ 6 ∷ []) refl l (c .before .before .before .before .before .follow .ensures _)) count) (c .before .sum-is .ensures _ (c .before .before .before .before .before .before .before .before .args .total) (route-found (2 ∷ 3 ∷ 7 ∷ []) refl l (c .before .before .follow2 .ensures _)) sum (sums-to refl (search needs)))
+returns c = λ root l count sum. both-found _ _ _ (c .first-found .ensures) (c .before .before .before .before .count-is .ensures _ (route-found (2 ∷ 3 ∷ 6 ∷ []) refl l (c .before .before .before .before .before .follow .ensures _)) count) (c .before .sum-is .ensures _ (route-found (2 ∷ 3 ∷ 7 ∷ []) refl l (c .before .before .follow2 .ensures _)) sum)
 
 pub in-header-spec : {M : Type 1} → statement M
 in-header-spec =

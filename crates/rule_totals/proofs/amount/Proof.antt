@@ -25,11 +25,11 @@ cents-at-requires c κs = search needs
 
 returns : tie.Need-returns
 unfolding rows-in every is-sought
-returns c = λ t l read. amount-absent t (route-found (41 ∷ 42 ∷ []) refl l (c .before .before .follow .ensures _)) (c .enum-told .given .1)
+returns c = (search needs, λ t l read. amount-absent t (route-found (41 ∷ 42 ∷ []) refl l (c .before .before .follow .ensures _)) (c .enum-told .given .1))
 
 returns-2 : tie.Need-returns-2
 unfolding rows-in every is-sought
-returns-2 c = λ t l read. amount-there t (route-found (41 ∷ 42 ∷ []) refl l (c .before .before .before .before .follow .ensures _)) (c .before .before .found .given .1) (c .cents-at .ensures) read
+returns-2 c = (c .cents-at .ensures .0, λ t l read. amount-there t (route-found (41 ∷ 42 ∷ []) refl l (c .before .before .before .before .follow .ensures _)) (c .before .before .found .given .1) (c .cents-at .ensures .1) read)
 
 pub amount-spec : {M : Type 1} → statement M
 amount-spec =

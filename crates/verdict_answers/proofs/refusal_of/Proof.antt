@@ -95,12 +95,6 @@ enum-known-fault-13 c = search needs
 at-requires-15 : tie.Need-at-requires-15
 at-requires-15 c κs = search needs
 
-enum-known-fault-14 : tie.Need-enum-known-fault-14
-enum-known-fault-14 c = search needs
-
-at-requires-16 : tie.Need-at-requires-16
-at-requires-16 c κs = search needs
-
 returns : tie.Need-returns
 unfolding refusal-of numbered
 returns c = numbers (c .before .enum-told .given .1) (c .at .ensures) refl
@@ -161,10 +155,6 @@ returns-15 : tie.Need-returns-15
 unfolding refusal-of numbered
 returns-15 c = numbers (c .before .before .fault13 .given .1) (c .at15 .ensures) refl
 
-returns-16 : tie.Need-returns-16
-unfolding refusal-of numbered
-returns-16 c = numbers (c .before .before .fault14 .given .1) (c .at16 .ensures) refl
-
 pub refusal-of-spec : {M : Type 1} → statement M
 refusal-of-spec =
     tie.close
@@ -199,8 +189,6 @@ refusal-of-spec =
     at-requires-14
     enum-known-fault-13
     at-requires-15
-    enum-known-fault-14
-    at-requires-16
     returns
     returns-2
     returns-3
@@ -215,5 +203,4 @@ refusal-of-spec =
     returns-12
     returns-13
     returns-14
-    returns-15
-    returns-16)
+    returns-15)

@@ -24,7 +24,7 @@ returns c = λ w e p there b f.
     let own = there .own-is in
     let spans = c .before .before .before .spans-of .ensures _ p e (c .before .before .before .before .before .by-name .ensures _ (p .own) own) b in
     let at = c .before .cell .ensures in
-    the-row w spans f (there .number-is) (c .before .before .amount .ensures (p .own) own (f .amount)) (at-cell (entry-at own) at) (own-inside own at) (c .row .ensures)
+    the-row w spans f (there .number-is) (c .before .before .amount .ensures .1 (p .own) own (f .amount)) (at-cell (entry-at own) at) (own-inside own at) (c .row .ensures)
 
 pub numbers-of-spec : {M : Type 1} → statement M
 numbers-of-spec =
