@@ -6,7 +6,7 @@
 //! answer and the whole run. Both must be what the independent implementation says: the answer, every byte of the table, and every other byte as it was.
 //! Each call names a profile by a number, and says by a number whether the message, or the first one, is archived; a part of the messages and pairs is read
 //! under both profiles, a part as new and as archived. The inputs of the first differences are written to FOLDER. It fails on any difference, and if under
-//! one of the profiles, as new or as archived, a refusal that can be reached never was, or one that can't was.
+//! one of the profiles, as new or as archived, a refusal that can be reached never was, or a number that can't was, or no total was as wide as the largest.
 
 use independent::generate::{self, random::Random, Pair};
 use independent::{field, regroup, verdict, Age, Profile, Regroup, Verdict};
@@ -21,8 +21,9 @@ const GUARD: usize = 256;
 const DIFFERENCES_SHOWN: usize = 10;
 const NULL: u32 = u32::MAX;
 
-/// Refusals of a message that can be reached: the amounts of 64 payments never come to 64 bits, so 21 can't.
-const OF_MESSAGES: std::ops::RangeInclusive<u64> = 1..=14;
+/// Refusals of a message, of a table that is too short, and of a regrouping. No number but these and that of row 32 may ever be answered; 21 is none of them.
+const OF_MESSAGES: std::ops::RangeInclusive<u64> = 1..=13;
+const SHORT_TABLE: u64 = 14;
 const OF_PAIRS: std::ops::RangeInclusive<u64> = 15..=20;
 const FIELDS: std::ops::RangeInclusive<u64> = 1..=17;
 
@@ -38,6 +39,9 @@ const OF_ARCHIVED: [(u64, u64); 3] = [(6, 33), (7, 33), (8, 33)];
 
 /// The refusal of a new message that holds row 32.
 const WITHDRAWN: u64 = 28;
+
+/// The bits of the largest total, that of 64 payments of 99,999,999,999 cents.
+const WIDEST: u64 = 43;
 
 /// The field that is the debtor's agent, and its text where that was not provided.
 const AGENT: u64 = 7;
@@ -370,6 +374,13 @@ impl Reached {
         missing.is_empty()
     }
 
+    /// Says which numbers besides these were reached, which can't be; whether none was.
+    fn only(&self, numbers: impl Iterator<Item = u64>, of: &str) -> bool {
+        let numbers: BTreeSet<u64> = numbers.collect();
+        let others = self.0.keys().filter(|number| !numbers.contains(number));
+        others.filter(|number| !self.never(**number, of)).count() == 0
+    }
+
     /// Says that this number was reached, which can't be; whether it was not.
     fn never(&self, number: u64, of: &str) -> bool {
         let times = self.0.get(&number).map_or(0, |(times, _)| *times);
@@ -484,6 +495,8 @@ struct Seen {
     fields: Reached,
     /// The field that differs since the first message holds row 32.
     not_provided: Reached,
+    /// How many bits a total has that 32 can't hold.
+    totals: Reached,
 }
 
 impl Seen {
@@ -491,6 +504,9 @@ impl Seen {
         let answer = &call.answer;
         if call.not_provided {
             self.not_provided.add(answer[5], 0);
+        }
+        if call.kind == Kind::Verdict && answer[5] >= 1 << 32 {
+            self.totals.add(u64::from(u64::BITS - answer[5].leading_zeros()), 0);
         }
         match (call.kind, answer[0]) {
             (Kind::Verdict, number) => self.messages.add(number, answer[1]),
@@ -512,12 +528,22 @@ impl Seen {
         self.pairs.print(&titled("regroupings"), "fields");
         self.firsts.print(&titled("regroupings, the first message refused"), "elements");
         self.seconds.print(&titled("regroupings, the second message refused"), "elements");
-        let none = std::iter::once(0);
+        let totals = titled("bits of totals above 32 bits");
+        self.totals.print_numbers(&totals);
+        let of_verdicts = || [0, SHORT_TABLE].into_iter().chain(OF_MESSAGES);
+        let of_pairs = || std::iter::once(0).chain(OF_PAIRS);
+        let of_messages = || OF_MESSAGES.chain([WITHDRAWN]);
+        let [first, second] = ["the first message's refusal", "the second message's refusal"].map(titled);
         [
-            self.messages.all(none.clone().chain(OF_MESSAGES), &titled("verdict")),
-            self.pairs.all(none.chain(OF_PAIRS), &titled("regrouping")),
-            self.firsts.all(std::iter::once(2), &titled("the first message's refusal")),
-            self.seconds.all(std::iter::once(2), &titled("the second message's refusal")),
+            self.messages.all(of_verdicts(), &titled("verdict")),
+            self.messages.only(of_verdicts().chain([WITHDRAWN]), &titled("verdict")),
+            self.totals.all(std::iter::once(WIDEST), &totals),
+            self.pairs.all(of_pairs(), &titled("regrouping")),
+            self.pairs.only(of_pairs(), &titled("regrouping")),
+            self.firsts.all(std::iter::once(2), &first),
+            self.firsts.only(of_messages(), &first),
+            self.seconds.all(std::iter::once(2), &second),
+            self.seconds.only(of_messages(), &second),
             self.fields.all(FIELDS, &titled("differing field")),
         ]
         .into_iter()

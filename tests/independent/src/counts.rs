@@ -1,4 +1,4 @@
-//! Refusals 21, 12 and 13: the counts and control sums against the truth.
+//! Refusals 12 and 13: the counts and control sums against the truth.
 
 use crate::order::{offset, Order};
 use crate::rows::Node;
@@ -7,15 +7,12 @@ use crate::Refusal;
 
 /// The total in cents of a message whose counts and sums are true.
 pub fn check(order: &Order) -> Result<u64, Refusal> {
-    let header = order.header();
     let payments: Vec<&Node> = order.payments().iter().map(|payment| payment.own).collect();
-    let total = sum(order, &payments)
-        .ok_or_else(|| Refusal::new(21, 7, offset(header.and_then(|group| group.down(&[7])))))?;
-    agree(order, header, [6, 7], payments.len(), total)?;
+    let total = sum(order, &payments);
+    agree(order, order.header(), [6, 7], payments.len(), total)?;
     for block in order.blocks() {
         let payments: Vec<&Node> = block.all(37).collect();
-        let sum = sum(order, &payments).unwrap_or(total);
-        agree(order, Some(block), [14, 15], payments.len(), sum)?;
+        agree(order, Some(block), [14, 15], payments.len(), sum(order, &payments))?;
     }
     Ok(total)
 }
@@ -24,8 +21,9 @@ pub fn amount(order: &Order, payment: &Node) -> u64 {
     values::cents(order.text(payment.down(&[41, 42]))).unwrap_or(0)
 }
 
-fn sum(order: &Order, payments: &[&Node]) -> Option<u64> {
-    payments.iter().try_fold(0u64, |sum, payment| sum.checked_add(amount(order, payment)))
+/// In cents: by refusals 5 and 8 at most 64 times 99,999,999,999, which is below 2^43.
+fn sum(order: &Order, payments: &[&Node]) -> u64 {
+    payments.iter().map(|payment| amount(order, payment)).sum()
 }
 
 /// The count and the sum of the header or of a block.

@@ -8,6 +8,7 @@ pub mod instant;
 pub mod random;
 pub mod transfer;
 
+use crate::usage::MOST_PAYMENTS;
 use crate::{Age, Profile, Refusal, Regroup, LONGEST_MESSAGE};
 use damage::DAMAGES;
 use draft::{Draft, Layout};
@@ -115,7 +116,10 @@ pub fn sound_message(profile: Profile, age: Age, seed: u64, index: u64) -> Sound
 fn sound(Made { profile, age }: Made, random: &mut Random) -> Sound {
     loop {
         let (count, plenty) = count_and_plenty(random);
-        let transfers = transfer::transfers(profile, age, count, plenty, random);
+        let mut transfers = transfer::transfers(profile, age, count, plenty, random);
+        if random.percent(if count == MOST_PAYMENTS { 60 } else { 10 }) {
+            transfer::enlarge(&mut transfers, random);
+        }
         let sound = arranged(&in_any_order(&transfers, random), plenty, random);
         if sound.message.len() <= LONGEST_MESSAGE {
             return sound;
@@ -139,11 +143,12 @@ fn arranged(transfers: &[Transfer], plenty: Plenty, random: &mut Random) -> Soun
 
 /// The more payments, the less each may say.
 fn count_and_plenty(random: &mut Random) -> (usize, Plenty) {
-    let (low, high, chance, longest) = match random.below(20) {
+    let (low, high, chance, longest) = match random.below(21) {
         0..=12 => (1, 5, 50, 35),
         13..=16 => (6, 20, 40, 20),
-        17..=18 => (21, 64, 20, 10),
-        _ => (60, 64, 10, 6),
+        17..=18 => (21, MOST_PAYMENTS, 20, 10),
+        19 => (60, MOST_PAYMENTS, 10, 6),
+        _ => (MOST_PAYMENTS, MOST_PAYMENTS, 10, 6),
     };
     (random.between(low, high), Plenty { chance, longest })
 }

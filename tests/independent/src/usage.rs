@@ -5,7 +5,7 @@ use crate::rows::Node;
 use crate::Refusal;
 
 const MOST_BLOCKS: usize = 16;
-const MOST_PAYMENTS: usize = 64;
+pub const MOST_PAYMENTS: usize = 64;
 
 /// 5: the 17th block or the 65th payment, whichever comes first.
 pub fn limits(order: &Order) -> Result<(), Refusal> {

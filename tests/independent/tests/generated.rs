@@ -1,11 +1,13 @@
 //! Generated messages and pairs: sound ones are accepted as made, damaged ones
-//! reach every refusal that can be reached, and no refusal writes.
+//! reach every refusal, totals reach the largest, and no refusal writes.
 
 mod common;
+use common::edits::recounted;
 use common::list;
 use independent::generate::transfer::{Remittance, Transfer};
 use independent::generate::{case, pair, sound_message};
 use independent::rows::{rows_of, tag};
+use independent::values::cents;
 use independent::{differing, field, form, regroup, verdict, Age, Profile, Regroup, Verdict};
 use std::collections::{BTreeMap, BTreeSet};
 
@@ -179,7 +181,7 @@ fn a_sound_archived_message_is_refused_as_new_exactly_where_it_holds_row_32() {
 }
 
 #[test]
-fn every_reachable_refusal_of_a_message_is_reached() {
+fn every_refusal_of_a_message_is_reached() {
     let mut read: BTreeMap<(u64, Age), BTreeMap<u32, BTreeSet<u32>>> = BTreeMap::new();
     for index in 0..16000 {
         let case = case(SEED, index);
@@ -218,6 +220,40 @@ fn every_reachable_refusal_of_a_message_is_reached() {
             assert!(reached.values().flatten().all(|row| *row <= 55));
         }
     }
+}
+
+/// The stated sum that stands so many-th in the text.
+fn stated(text: &str, ordinal: usize) -> u64 {
+    let sum = text.split("<CtrlSum>").nth(ordinal + 1).and_then(|rest| rest.split('<').next());
+    cents(sum.unwrap().as_bytes()).unwrap()
+}
+
+#[test]
+fn large_totals_and_sums_wrong_by_32_bits_are_made() {
+    let (mut large, mut largest) = (BTreeMap::new(), 0);
+    let mut wrong = BTreeMap::new();
+    for index in 0..8000 {
+        let case = case(SEED + 8, index);
+        match verdict(case.profile, case.age, &case.message, &mut [0; 1024]) {
+            Verdict::Accepted { cents, .. } if cents >= 1 << 32 => {
+                *large.entry((case.profile.number(), case.age)).or_insert(0) += 1;
+                largest += u32::from(cents == 64 * 99_999_999_999);
+            }
+            Verdict::Refused { number: 13, element, offset } => {
+                let message = std::str::from_utf8(&case.message).unwrap();
+                let ordinal = message[..offset].matches("<CtrlSum>").count();
+                let [old, new] = [message, &recounted(message)].map(|text| stated(text, ordinal));
+                assert_ne!(old, new);
+                if old.abs_diff(new) % (1 << 32) == 0 {
+                    *wrong.entry((element, old < new)).or_insert(0) += 1;
+                }
+            }
+            _ => {}
+        }
+    }
+    assert!(large.len() == 4 && large.values().all(|many| *many > 100), "{large:?}");
+    assert!(wrong.len() == 4 && wrong.values().all(|many| *many > 10), "{wrong:?}");
+    assert!(largest > 5, "{largest}");
 }
 
 #[test]

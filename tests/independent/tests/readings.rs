@@ -1,10 +1,11 @@
 //! The written form, rows, limits, values and usage, place by place.
 
 mod common;
+use common::edits::recounted;
 use common::*;
 use independent::form::{form, DECLARATION};
 use independent::values::{fault, Fault};
-use independent::Verdict;
+use independent::{Age, Profile, Verdict};
 
 /// Where the bytes, after the root's start tag, fail.
 fn after_root(rest: &str) -> Option<usize> {
@@ -433,5 +434,56 @@ fn counts_and_sums_of_header_and_blocks_in_their_order() {
     assert_eq!(judge(&message), refused(12, 6, nth(&message, "<NbOfTxs>", 0)));
     for sum in ["35.1", "35.10", "0035.10", "000000000000035.1"] {
         assert_eq!(judge(m1(">35.10<", &format!(">{sum}<"))), accepted(1, 2, 3510));
+    }
+}
+
+/// 64 payments of the largest amount, so many in each block, with true counts and sums.
+fn largest(payments: &[usize]) -> String {
+    let message = recounted(&blocks(payments).replace(">22.60<", ">999999999.99<"));
+    assert!(payments.iter().sum::<usize>() == 64 && message.len() <= independent::LONGEST_MESSAGE);
+    message
+}
+
+/// The message read in every way: under both profiles, as new and as archived, then also with row 32.
+fn read_each_way(message: &str) -> Vec<(Profile, Age, String)> {
+    let both =
+        [(Profile::FIRST, message.to_string()), (Profile::INSTANT, instant(message, MOMENT))];
+    let each = both.map(|(profile, message)| {
+        let other = not_provided(&message);
+        [(Age::New, message.clone()), (Age::Archived, message), (Age::Archived, other)]
+            .map(|(age, message)| (profile, age, message))
+    });
+    each.concat()
+}
+
+#[test]
+fn the_largest_total() {
+    for payments in [&[64][..], &[1, 63], &[20, 1, 43], &[4; 16]] {
+        for (profile, age, message) in read_each_way(&largest(payments)) {
+            assert!(element(&message, "GrpHdr").contains("<CtrlSum>63999999999.36<"));
+            let wanted = accepted(payments.len() as u32, 64, 6_399_999_999_936);
+            assert_eq!(judge_as(profile, age, &message), wanted, "{payments:?}");
+        }
+    }
+}
+
+/// The true sum is 6,399,999,999,936 cents: one cent off, 2^32 cents off, and taken to 32 bits.
+#[test]
+fn a_sum_beside_the_largest_total() {
+    let others = ["63999999999.35", "63999999999.37", "63957050326.40", "64042949672.32"];
+    for other in others.into_iter().chain(["4987288.96", "04987288.96"]) {
+        let wrong = |text: &str| with(text, ">63999999999.36<", &format!(">{other}<"));
+        for payments in [&[64][..], &[30, 34], &[4; 16]] {
+            for (profile, age, message) in read_each_way(&wrong(&largest(payments))) {
+                let wanted = refused(13, 7, nth(&message, "<CtrlSum>", 0));
+                assert_eq!(judge_as(profile, age, &message), wanted, "{other} of {payments:?}");
+            }
+        }
+        let message = largest(&[64]);
+        let block = element(&message, "PmtInf");
+        for (profile, age, message) in read_each_way(&with(&message, block, &wrong(block))) {
+            let wanted = refused(13, 15, nth(&message, "<CtrlSum>", 1));
+            assert_eq!(judge_as(profile, age, &message), wanted, "{other} of the block");
+        }
     }
 }

@@ -4,9 +4,10 @@ use super::agent;
 use super::draft::Draft;
 use super::instant;
 use super::random::Random;
-use super::transfer::{bic, iban, iban_of_wrong_check_digits};
+use super::transfer::{bic, iban, iban_of_wrong_check_digits, written_cents};
 use crate::form::{DECLARATION, ROOT_TAG};
 use crate::rows;
+use crate::values::cents;
 use crate::LONGEST_MESSAGE;
 
 pub type Damage = fn(&mut Draft, &mut Random);
@@ -311,6 +312,9 @@ fn in_block_and_payment(block: &mut Draft, added: Draft, random: &mut Random) {
 }
 
 pub fn counts(root: &mut Draft, random: &mut Random) {
+    if random.percent(35) {
+        return sum_of_32_bits(root, random);
+    }
     let wanted: fn(&Draft) -> bool = match random.below(4) {
         0 => |element| element.name == "NbOfTxs",
         1 => |element| element.name == "InstdAmt",
@@ -328,6 +332,19 @@ pub fn counts(root: &mut Draft, random: &mut Random) {
         _ => format!("{whole}.{point}0").chars().take(18).collect(),
     };
     leaf.text = other.into_bytes();
+}
+
+/// The sum of the header or of a block 2^32 cents up or down, or taken to 32 bits.
+fn sum_of_32_bits(root: &mut Draft, random: &mut Random) {
+    let group = root.any(random, |element| element.name == "GrpHdr" || is_block(element));
+    let Some(leaf) = group.and_then(|group| group.child("CtrlSum")) else { return };
+    let Some(sum) = cents(&leaf.text) else { return };
+    let other = match random.below(3) {
+        0 if sum >= 1 << 32 => sum - (1 << 32),
+        1 if sum >= 1 << 32 => sum % (1 << 32),
+        _ => sum + (1 << 32),
+    };
+    leaf.text = written_cents(other, random).into_bytes();
 }
 
 /// Payments or blocks around and above the greatest number.

@@ -68,6 +68,9 @@ pub struct Plenty {
     pub longest: usize,
 }
 
+/// The largest amount that is allowed.
+const MOST_CENTS: u64 = 99_999_999_999;
+
 const LETTERS: &[u8] = b"abcdefghijklmnopqrstuvwxyzABCDEFGHIJKLMNOPQRSTUVWXYZ0123456789";
 const ALL: &[u8] = b"abcdefghijklmnopqrstuvwxyzABCDEFGHIJKLMNOPQRSTUVWXYZ0123456789/-?:().,'+ ";
 const CAPITALS: &[u8] = b"ABCDEFGHIJKLMNOPQRSTUVWXYZ";
@@ -164,7 +167,7 @@ pub fn execution(profile: Profile, random: &mut Random) -> Execution {
 }
 
 pub fn cents(random: &mut Random) -> u64 {
-    let most = *random.pick(&[1, 100, 10_000, 1_000_000, 99_999_999_999]);
+    let most = *random.pick(&[1, 100, 10_000, 1_000_000, MOST_CENTS]);
     if random.percent(5) {
         return most;
     }
@@ -252,6 +255,16 @@ pub fn transfers(
         transfers.push(transfer);
     }
     transfers
+}
+
+/// Half of the transfers, most of them or all get the largest amount.
+pub fn enlarge(transfers: &mut [Transfer], random: &mut Random) {
+    let chance = *random.pick(&[50, 90, 100]);
+    for transfer in transfers {
+        if random.percent(chance) {
+            transfer.cents = MOST_CENTS;
+        }
+    }
 }
 
 fn transfer(
