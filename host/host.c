@@ -42,7 +42,6 @@ static const char *const reasons[] = {
     [GLOWENZO_ORDINAL_TOO_LARGE] = "an ordinal is too large",
     [GLOWENZO_NAMED_BEFORE] = "a payment was named before",
     [GLOWENZO_FIELDS_DIFFER] = "a field differs",
-    [GLOWENZO_TOTAL_TOO_LARGE] = "the total is too large",
     [GLOWENZO_WITHDRAWN] = "a row that is withdrawn, in a new message",
 };
 

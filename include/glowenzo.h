@@ -56,7 +56,6 @@ enum {
     GLOWENZO_COUNT_DIFFERS = 12,         /* a count differs from the truth; element 6 or 14; offset: its < */
     GLOWENZO_SUM_DIFFERS = 13,           /* a sum differs from the truth; element 7 or 15; offset: its < */
     GLOWENZO_TABLE_TOO_SHORT = 14,       /* table under 1,024 numbers */
-    GLOWENZO_TOTAL_TOO_LARGE = 21,       /* total above 64 bits; no message within the limits reaches it */
     GLOWENZO_WITHDRAWN = 28              /* row 32 in a new message; offset: its < */
 };
 
