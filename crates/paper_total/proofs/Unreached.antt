@@ -23,7 +23,7 @@ use Rattle.paper_pairing.proofs.Six.{SixNumbers, of-a-message, of-no-pair, of-a
 use Rattle.paper_total.specs.With21 as with-21
 use Rattle.paper_total.proofs.Bound.{total-at-most}
 
--- The kept refusal is 21 for a total of 64 bits or more.
+-- The kept refusal is 21 for a total of 2^64 cents or more.
 pub above-is-21 : (root : Element) → 2 ^ 64 ≤ total root → with-21.total-refusal root ≡ refuse 21 7 (with-21.at-of (header-sum root))
 unfolding with-21.total-refusal
 above-is-21 root h = rw (le-ltb (total root) (2 ^ 64) h)
