@@ -17,7 +17,7 @@ profile-numbered profile archived = profile-by (eqb profile 1) (not (eqb archive
 unfoldable pub four-bytes : ℕ → List ℕ
 four-bytes n = n / 16777216 ∷ n / 65536 % 256 ∷ n / 256 % 256 ∷ n % 256 ∷ []
 
--- One to three bytes left at the end make no number (so a table of 4,095 bytes has 1,023 numbers, and is too short),
+-- One to three bytes left at the end make no number (so a table of 5,119 bytes has 1,279 numbers, and is too short),
 unfoldable pub numbers-held : (table : List ℕ) → ℕ
 numbers-held table = length table / 4
 

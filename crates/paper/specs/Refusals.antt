@@ -28,7 +28,7 @@ _or-else_ (some r) later = some r
 _or-else_ none later = later
 
 infixr 20 _or-else_
--- 14: the table has under 1,024 numbers. 1: over 32,768 bytes.
+-- 14: the table has under 1,280 numbers. 1: over 32,768 bytes.
 unfoldable pub table-refusal : (table-length : ℕ) → Option Refusal
 table-refusal n = if ltb n least-table then refuse 14 0 0 else none
 

@@ -1,9 +1,11 @@
 // The rules (docs/RULES.md) as definitions (specs/). What callers name and the enums of the answers stand here; specs/Answers.antt gives the paper's profile, and its numbers for each of their cases.
 
-// Sizes (specs/Sizes.antt): the bytes of the largest message, the numbers of the least table, the most blocks and payments.
+// Sizes (specs/Sizes.antt): the bytes of the largest message, the numbers of a payment and of the least table, the most blocks and payments.
 pub const LARGEST_MESSAGE: usize = 32768;
 
-pub const LEAST_TABLE: usize = 1024;
+pub const NUMBERS_PER_PAYMENT: usize = 20;
+
+pub const LEAST_TABLE: usize = 1280;
 
 pub const MOST_BLOCKS: usize = 16;
 

@@ -1,6 +1,6 @@
 -- The cases that are computed, over the definitions. Under the first profile: those that were asked to be proved (P), in their order; the verdict on M1 itself, its
--- table, its fields' parts and the host's bytes. Under the instant profile: I1, its table and field 4. Under both: some refusals in which they agree. Row 32 in new and in archived
--- messages, and how a caller says which they are.
+-- table, its fields' parts and the host's bytes; M6's table. Under the instant profile: I1, its table and field 4. Under both: some refusals in which they agree. Row 32 in
+-- new and in archived messages, and how a caller says which they are.
 use Prim.Native.Nat.{ℕ, zero, suc}
 use Prim.Native.String.{String}
 use mathlib.Core.List.{List, [], _∷_, _++_}
@@ -12,7 +12,7 @@ use Rattle.paper.specs.Rows.{Profile, first-profile, instant-profile, as-archiv
 use Rattle.paper.specs.Values.{amount, iban, date, date-time-zone}
 use Rattle.paper.specs.Sizes.{least-table}
 use Rattle.paper.specs.Refusals.{MessageAnswer, accepted, refused, outcome-alone, outcome, verdict}
-use Rattle.paper.specs.Table.{table-after}
+use Rattle.paper.specs.Table.{payment-numbers, table-after}
 use Rattle.paper.specs.Fields.{field-part}
 use Rattle.paper.specs.Regrouping.{RegroupingAnswer, message-refused, answered, regrouping, differing-part}
 use Rattle.paper.specs.Host.{profile-numbered, bytes-after}
@@ -146,18 +146,48 @@ m1-by agent = m1-by-and agent []
 unfoldable pub i1-by : (agent : List ℕ) → List ℕ
 i1-by agent = order (header "M1" "2" "35.10") (block-by agent inst half-past-nine "B1" "2" "35.1" study-12 ++ (weis ++ klein))
 
+-- M6 has five payments: the first with a BIC of the creditor's agent and free text, the second with a reference and its issuer, the third with a reference without issuer,
+-- the fourth with none of these, the fifth with a BIC alone. The debtor's agent has a BIC of its own. So with other rows 16 and 22. (M4 and M5 stand in
+-- crates/paper_cases_messages/specs/Changed.antt.)
+unfoldable pub m6-payment : (end-to-end-id amount agent remittance : String) → List ℕ
+m6-payment end-to-end-id amount agent remittance =
+    bytes "<CdtTrfTxInf><PmtId><EndToEndId>" ++
+    (bytes end-to-end-id ++
+    (bytes "</EndToEndId></PmtId><Amt><InstdAmt Ccy=\"EUR\">" ++
+    (bytes amount ++
+    (bytes "</InstdAmt></Amt>" ++
+    (bytes agent ++
+    (bytes "<Cdtr><Nm>A Weis</Nm></Cdtr><CdtrAcct><Id><IBAN>LU699871234567898765</IBAN></Id></CdtrAcct>" ++
+    (bytes remittance ++ bytes "</CdtTrfTxInf>\n")))))))
+
+unfoldable pub m6-with : (type date : List ℕ) → List ℕ
+m6-with type date =
+    order (header "M6" "5" "38.15")
+    (block-with type date "B1" "5" "38.15" study-12 ++
+    (m6-payment "E1" "12.5" "<CdtrAgt><FinInstnId><BICFI>BBBBLULLXXX</BICFI></FinInstnId></CdtrAgt>" "<RmtInf><Ustrd>Travel 12</Ustrd></RmtInf>" ++
+    (m6-payment "E2" "22.60" ""
+    "<RmtInf><Strd><CdtrRefInf><Tp><CdOrPrtry><Cd>SCOR</Cd></CdOrPrtry><Issr>ISO</Issr></Tp><Ref>RF18539007547034</Ref></CdtrRefInf></Strd></RmtInf>" ++
+    (m6-payment "E3" "0.05" "" "<RmtInf><Strd><CdtrRefInf><Tp><CdOrPrtry><Cd>SCOR</Cd></CdOrPrtry></Tp><Ref>RF1912</Ref></CdtrRefInf></Strd></RmtInf>" ++
+    (m6-payment "E4" "1" "" "" ++ m6-payment "E5" "2.00" "<CdtrAgt><FinInstnId><BICFI>CCCCLULL</BICFI></FinInstnId></CdtrAgt>" "")))))
+
+unfoldable pub m6 : List ℕ
+m6 = m6-with sepa fourth-of-march
+
 -- the list of two ordinals
 unfoldable pub list : (first second : ℕ) → List ℕ
 list first second = bytes "RGL" ++ (0 ∷ 1 ∷ 0 ∷ 2 ∷ 0 ∷ first ∷ 0 ∷ second ∷ [])
 
--- A case: the verdict on a message with a table that is long enough; what a value's rule says; the answer to a regrouping; the table after a message, laid over
--- an old one, and its bytes; the start and length of a field's part; those of the part that is handed back after a regrouping. It holds under a profile. Two name
--- their own: the verdict on a message under the profile that two numbers name, as a host in C does, or two truths, as the code does. One says which profile the numbers name.
+-- A case: the verdict on a message with a table that is long enough, or has so many numbers; what a value's rule says; the answer to a regrouping; the table after a message, laid over
+-- an old one, and its bytes; a payment's numbers in that table; the start and length of a field's part; those of the part that is handed back after a regrouping. It holds
+-- under a profile. Two name their own: the verdict on a message under the profile that two numbers name, as a host in C does, or two truths, as the code does. One says which
+-- profile the numbers name.
 pub data Case : Type 0 where
   message : List ℕ → MessageAnswer → Case
+  lent : (table-length : ℕ) → List ℕ → MessageAnswer → Case
   value : (List ℕ → Bool) → String → Bool → Case
   moved : (first second file : List ℕ) → RegroupingAnswer → Case
   table bytes-of : (message old after : List ℕ) → Case
+  payment-has : (message old : List ℕ) (payment : ℕ) (numbers : List ℕ) → Case
   field : (message : List ℕ) (payment field start size : ℕ) → Case
   differing : (first second file : List ℕ) (start size : ℕ) → Case
   by-number : (profile archived : ℕ) → List ℕ → MessageAnswer → Case
@@ -166,10 +196,12 @@ pub data Case : Type 0 where
 
 unfoldable pub Holds : Profile → Case → Type 0
 Holds profile (message s a) = verdict profile least-table s ≡ a
+Holds profile (lent n s a) = verdict profile n s ≡ a
 Holds profile (value rule w allowed) = rule (bytes w) ≡ allowed
 Holds profile (moved first second file a) = regrouping profile first second file ≡ a
 Holds profile (table s old after) = table-after (outcome profile least-table s) old ≡ after
 Holds profile (bytes-of s old after) = bytes-after (outcome profile least-table s) old ≡ after
+Holds profile (payment-has s old payment numbers) = payment-numbers payment (table-after (outcome profile least-table s) old) ≡ numbers
 Holds profile (field s payment number start size) = field-part (outcome-alone profile s) payment number ≡ record { start = start; size = size }
 Holds profile (differing first second file start size) = differing-part profile first second file ≡ record { start = start; size = size }
 Holds profile (by-number n archived s a) = verdict (profile-numbered n archived) least-table s ≡ a
@@ -217,11 +249,11 @@ p-cases =
     moved m1 m2 (list 0 1) (answered 20 0 10) ∷
     moved m1 m3 (list 0 1) (answered 20 1 8) ∷ []
 
--- M1's 32 numbers
+-- M1's 40 numbers, twenty for each payment
 unfoldable pub m1-numbers : List ℕ
 m1-numbers =
-    0 ∷ 662 ∷ 2 ∷ 779 ∷ 20 ∷ 741 ∷ 6 ∷ 604 ∷ 8 ∷ 341 ∷ 30 ∷ 479 ∷ 20 ∷ 12 ∷ 50 ∷ 630 ∷
-    0 ∷ 869 ∷ 2 ∷ 988 ∷ 20 ∷ 949 ∷ 7 ∷ 604 ∷ 8 ∷ 341 ∷ 30 ∷ 479 ∷ 20 ∷ 22 ∷ 60 ∷ 837 ∷ []
+    0 ∷ 662 ∷ 2 ∷ 779 ∷ 20 ∷ 741 ∷ 6 ∷ 604 ∷ 8 ∷ 341 ∷ 30 ∷ 479 ∷ 20 ∷ 12 ∷ 50 ∷ 630 ∷ 0 ∷ 0 ∷ 0 ∷ 0 ∷
+    0 ∷ 869 ∷ 2 ∷ 988 ∷ 20 ∷ 949 ∷ 7 ∷ 604 ∷ 8 ∷ 341 ∷ 30 ∷ 479 ∷ 20 ∷ 22 ∷ 60 ∷ 837 ∷ 0 ∷ 0 ∷ 0 ∷ 0 ∷ []
 
 unfoldable pub m1-bytes : List ℕ
 m1-bytes =
@@ -229,18 +261,37 @@ m1-bytes =
     0 ∷ 0 ∷ 0 ∷ 20 ∷ 0 ∷ 0 ∷ 2 ∷ 229 ∷ 0 ∷ 0 ∷ 0 ∷ 6 ∷ 0 ∷ 0 ∷ 2 ∷ 92 ∷
     0 ∷ 0 ∷ 0 ∷ 8 ∷ 0 ∷ 0 ∷ 1 ∷ 85 ∷ 0 ∷ 0 ∷ 0 ∷ 30 ∷ 0 ∷ 0 ∷ 1 ∷ 223 ∷
     0 ∷ 0 ∷ 0 ∷ 20 ∷ 0 ∷ 0 ∷ 0 ∷ 12 ∷ 0 ∷ 0 ∷ 0 ∷ 50 ∷ 0 ∷ 0 ∷ 2 ∷ 118 ∷
+    0 ∷ 0 ∷ 0 ∷ 0 ∷ 0 ∷ 0 ∷ 0 ∷ 0 ∷ 0 ∷ 0 ∷ 0 ∷ 0 ∷ 0 ∷ 0 ∷ 0 ∷ 0 ∷
     0 ∷ 0 ∷ 0 ∷ 0 ∷ 0 ∷ 0 ∷ 3 ∷ 101 ∷ 0 ∷ 0 ∷ 0 ∷ 2 ∷ 0 ∷ 0 ∷ 3 ∷ 220 ∷
     0 ∷ 0 ∷ 0 ∷ 20 ∷ 0 ∷ 0 ∷ 3 ∷ 181 ∷ 0 ∷ 0 ∷ 0 ∷ 7 ∷ 0 ∷ 0 ∷ 2 ∷ 92 ∷
     0 ∷ 0 ∷ 0 ∷ 8 ∷ 0 ∷ 0 ∷ 1 ∷ 85 ∷ 0 ∷ 0 ∷ 0 ∷ 30 ∷ 0 ∷ 0 ∷ 1 ∷ 223 ∷
-    0 ∷ 0 ∷ 0 ∷ 20 ∷ 0 ∷ 0 ∷ 0 ∷ 22 ∷ 0 ∷ 0 ∷ 0 ∷ 60 ∷ 0 ∷ 0 ∷ 3 ∷ 69 ∷ []
+    0 ∷ 0 ∷ 0 ∷ 20 ∷ 0 ∷ 0 ∷ 0 ∷ 22 ∷ 0 ∷ 0 ∷ 0 ∷ 60 ∷ 0 ∷ 0 ∷ 3 ∷ 69 ∷
+    0 ∷ 0 ∷ 0 ∷ 0 ∷ 0 ∷ 0 ∷ 0 ∷ 0 ∷ 0 ∷ 0 ∷ 0 ∷ 0 ∷ 0 ∷ 0 ∷ 0 ∷ 0 ∷ []
+
+-- M6's 100 numbers
+unfoldable pub m6-numbers : List ℕ
+m6-numbers =
+    0 ∷ 663 ∷ 2 ∷ 850 ∷ 20 ∷ 812 ∷ 6 ∷ 605 ∷ 8 ∷ 342 ∷ 30 ∷ 480 ∷ 20 ∷ 12 ∷ 50 ∷ 631 ∷ 760 ∷ 11 ∷ 908 ∷ 9 ∷
+    0 ∷ 981 ∷ 2 ∷ 1099 ∷ 20 ∷ 1061 ∷ 6 ∷ 605 ∷ 8 ∷ 342 ∷ 30 ∷ 480 ∷ 20 ∷ 22 ∷ 60 ∷ 949 ∷ 0 ∷ 0 ∷ 1234 ∷ 16 ∷
+    0 ∷ 1332 ∷ 2 ∷ 1449 ∷ 20 ∷ 1411 ∷ 6 ∷ 605 ∷ 8 ∷ 342 ∷ 30 ∷ 480 ∷ 20 ∷ 0 ∷ 5 ∷ 1300 ∷ 0 ∷ 0 ∷ 1568 ∷ 6 ∷
+    0 ∷ 1656 ∷ 2 ∷ 1770 ∷ 20 ∷ 1732 ∷ 6 ∷ 605 ∷ 8 ∷ 342 ∷ 30 ∷ 480 ∷ 20 ∷ 1 ∷ 0 ∷ 1624 ∷ 0 ∷ 0 ∷ 0 ∷ 0 ∷
+    0 ∷ 1860 ∷ 2 ∷ 2044 ∷ 20 ∷ 2006 ∷ 6 ∷ 605 ∷ 8 ∷ 342 ∷ 30 ∷ 480 ∷ 20 ∷ 2 ∷ 0 ∷ 1828 ∷ 1957 ∷ 8 ∷ 0 ∷ 0 ∷ []
 
 unfoldable pub more-cases : List Case
 more-cases =
     message (m1-with "M1/" "3" "35.11") (refused-with 8 4 92) ∷
     message (m1-with "M1" "3" "35.11") (refused-with 12 6 147) ∷
-    table m1 (times 34 1) (m1-numbers ++ (1 ∷ 1 ∷ [])) ∷
-    table (m1-with "M1" "3" "35.10") (times 34 1) (times 34 1) ∷
-    bytes-of m1 (times 131 1) (m1-bytes ++ (1 ∷ 1 ∷ 1 ∷ [])) ∷
+    lent 1280 m1 (accepted 1 2 3510) ∷
+    lent 1279 m1 (refused-with 14 0 0) ∷
+    table m1 (times 42 1) (m1-numbers ++ (1 ∷ 1 ∷ [])) ∷
+    table (m1-with "M1" "3" "35.10") (times 42 1) (times 42 1) ∷
+    bytes-of m1 (times 163 1) (m1-bytes ++ (1 ∷ 1 ∷ 1 ∷ [])) ∷
+    table m6 (times 101 1) (m6-numbers ++ (1 ∷ [])) ∷
+    -- payment 1 begins at number 20, payment 4 at number 80
+    payment-has m1 (times 40 1) 1
+    (0 ∷ 869 ∷ 2 ∷ 988 ∷ 20 ∷ 949 ∷ 7 ∷ 604 ∷ 8 ∷ 341 ∷ 30 ∷ 479 ∷ 20 ∷ 22 ∷ 60 ∷ 837 ∷ 0 ∷ 0 ∷ 0 ∷ 0 ∷ []) ∷
+    payment-has m6 (times 100 1) 4
+    (0 ∷ 1860 ∷ 2 ∷ 2044 ∷ 20 ∷ 2006 ∷ 6 ∷ 605 ∷ 8 ∷ 342 ∷ 30 ∷ 480 ∷ 20 ∷ 2 ∷ 0 ∷ 1828 ∷ 1957 ∷ 8 ∷ 0 ∷ 0 ∷ []) ∷
     field m1 0 4 399 10 ∷
     field m1 0 1 0 0 ∷
     field m1 1 6 479 20 ∷
@@ -257,11 +308,11 @@ more-cases =
     message (m1-largest "24315043.82" "1999999999.98") (refused-with 13 7 167) ∷
     message (m1-largest "1999999999.98" "24315043.82") (refused-with 13 15 316) ∷ []
 
--- I1's 32 numbers: 9 and 10 are all that row 16 holds, the local instrument too.
+-- I1's 40 numbers: 9 and 10 are all that row 16 holds, the local instrument too.
 unfoldable pub i1-numbers : List ℕ
 i1-numbers =
-    0 ∷ 717 ∷ 2 ∷ 834 ∷ 20 ∷ 796 ∷ 6 ∷ 659 ∷ 8 ∷ 341 ∷ 66 ∷ 534 ∷ 20 ∷ 12 ∷ 50 ∷ 685 ∷
-    0 ∷ 924 ∷ 2 ∷ 1043 ∷ 20 ∷ 1004 ∷ 7 ∷ 659 ∷ 8 ∷ 341 ∷ 66 ∷ 534 ∷ 20 ∷ 22 ∷ 60 ∷ 892 ∷ []
+    0 ∷ 717 ∷ 2 ∷ 834 ∷ 20 ∷ 796 ∷ 6 ∷ 659 ∷ 8 ∷ 341 ∷ 66 ∷ 534 ∷ 20 ∷ 12 ∷ 50 ∷ 685 ∷ 0 ∷ 0 ∷ 0 ∷ 0 ∷
+    0 ∷ 924 ∷ 2 ∷ 1043 ∷ 20 ∷ 1004 ∷ 7 ∷ 659 ∷ 8 ∷ 341 ∷ 66 ∷ 534 ∷ 20 ∷ 22 ∷ 60 ∷ 892 ∷ 0 ∷ 0 ∷ 0 ∷ 0 ∷ []
 
 -- Under the instant profile.
 unfoldable pub instant-cases : List Case
@@ -272,7 +323,9 @@ instant-cases =
     message (i1-with inst (bytes "<Dt>2026-03-04</Dt><DtTm>2026-03-04T09:30:00+01:00</DtTm>")) (refused-with 3 22 450) ∷
     message (i1-with inst (bytes "<DtTm>2026-03-04T09:30:00+01:00</DtTm><Dt>2026-03-04</Dt>")) (refused-with 3 22 469) ∷
     message (i1-with inst (bytes "<DtTm>2026-03-04T09:30:00+14:01</DtTm>")) (refused-with 8 58 431) ∷
-    table i1 (times 34 1) (i1-numbers ++ (1 ∷ 1 ∷ [])) ∷
+    table i1 (times 42 1) (i1-numbers ++ (1 ∷ 1 ∷ [])) ∷
+    payment-has (m6-with inst half-past-nine) (times 100 1) 0
+    (0 ∷ 718 ∷ 2 ∷ 905 ∷ 20 ∷ 867 ∷ 6 ∷ 660 ∷ 8 ∷ 342 ∷ 66 ∷ 535 ∷ 20 ∷ 12 ∷ 50 ∷ 686 ∷ 815 ∷ 11 ∷ 963 ∷ 9 ∷ []) ∷
     field i1 1 4 437 25 ∷
     moved i1 i2 (list 1 0) (answered 0 0 0) ∷
     moved m1 m2 (list 1 0) (message-refused-with 1 4 56 371) ∷
@@ -338,7 +391,7 @@ archived-cases =
     differing (m1-by not-provided) m1 (list 0 1) 550 8 ∷
     moved m1 (m1-by not-provided) (list 0 1) (message-refused-with 2 28 32 543) ∷
     moved (m1-by not-provided) (m1-by not-provided) (list 0 1) (message-refused-with 2 28 32 543) ∷
-    table m1 (times 33 1) (m1-numbers ++ (1 ∷ [])) ∷
+    table m1 (times 41 1) (m1-numbers ++ (1 ∷ [])) ∷
     moved m1 m2 (list 1 0) (answered 0 0 0) ∷ []
 
 -- Which profile is meant, and of what message: the number 0 is a new one, any other an archived one.

@@ -174,16 +174,16 @@ instant-order-cases =
 -- The table: numbers 9 and 10 of a payment are all that its row 16 holds, in the payment or in its block. After a refusal nothing is written.
 unfoldable pub instant-table-cases : List Case
 instant-table-cases =
-    table (paid [] inst inst) (times 33 7)
-    (0 ∷ 630 ∷ 2 ∷ 834 ∷ 20 ∷ 796 ∷ 6 ∷ 572 ∷ 8 ∷ 663 ∷ 66 ∷ 447 ∷ 20 ∷ 12 ∷ 50 ∷ 598 ∷
-    0 ∷ 924 ∷ 2 ∷ 1130 ∷ 20 ∷ 1091 ∷ 7 ∷ 572 ∷ 8 ∷ 957 ∷ 66 ∷ 447 ∷ 20 ∷ 22 ∷ 60 ∷ 892 ∷ 7 ∷ []) ∷
-    table (dated (day ∷ [])) (times 32 7)
-    (0 ∷ 698 ∷ 2 ∷ 815 ∷ 20 ∷ 777 ∷ 6 ∷ 640 ∷ 8 ∷ 341 ∷ 66 ∷ 515 ∷ 20 ∷ 12 ∷ 50 ∷ 666 ∷
-    0 ∷ 905 ∷ 2 ∷ 1024 ∷ 20 ∷ 985 ∷ 7 ∷ 640 ∷ 8 ∷ 341 ∷ 66 ∷ 515 ∷ 20 ∷ 22 ∷ 60 ∷ 873 ∷ []) ∷
-    table (typed (priority ∷ level ∷ instrument ∷ category ∷ [])) (times 32 7)
-    (0 ∷ 778 ∷ 2 ∷ 895 ∷ 20 ∷ 857 ∷ 6 ∷ 720 ∷ 8 ∷ 341 ∷ 127 ∷ 595 ∷ 20 ∷ 12 ∷ 50 ∷ 746 ∷
-    0 ∷ 985 ∷ 2 ∷ 1104 ∷ 20 ∷ 1065 ∷ 7 ∷ 720 ∷ 8 ∷ 341 ∷ 127 ∷ 595 ∷ 20 ∷ 22 ∷ 60 ∷ 953 ∷ []) ∷
-    table m1 (times 33 7) (times 33 7) ∷ []
+    table (paid [] inst inst) (times 41 7)
+    (0 ∷ 630 ∷ 2 ∷ 834 ∷ 20 ∷ 796 ∷ 6 ∷ 572 ∷ 8 ∷ 663 ∷ 66 ∷ 447 ∷ 20 ∷ 12 ∷ 50 ∷ 598 ∷ 0 ∷ 0 ∷ 0 ∷ 0 ∷
+    0 ∷ 924 ∷ 2 ∷ 1130 ∷ 20 ∷ 1091 ∷ 7 ∷ 572 ∷ 8 ∷ 957 ∷ 66 ∷ 447 ∷ 20 ∷ 22 ∷ 60 ∷ 892 ∷ 0 ∷ 0 ∷ 0 ∷ 0 ∷ 7 ∷ []) ∷
+    table (dated (day ∷ [])) (times 40 7)
+    (0 ∷ 698 ∷ 2 ∷ 815 ∷ 20 ∷ 777 ∷ 6 ∷ 640 ∷ 8 ∷ 341 ∷ 66 ∷ 515 ∷ 20 ∷ 12 ∷ 50 ∷ 666 ∷ 0 ∷ 0 ∷ 0 ∷ 0 ∷
+    0 ∷ 905 ∷ 2 ∷ 1024 ∷ 20 ∷ 985 ∷ 7 ∷ 640 ∷ 8 ∷ 341 ∷ 66 ∷ 515 ∷ 20 ∷ 22 ∷ 60 ∷ 873 ∷ 0 ∷ 0 ∷ 0 ∷ 0 ∷ []) ∷
+    table (typed (priority ∷ level ∷ instrument ∷ category ∷ [])) (times 40 7)
+    (0 ∷ 778 ∷ 2 ∷ 895 ∷ 20 ∷ 857 ∷ 6 ∷ 720 ∷ 8 ∷ 341 ∷ 127 ∷ 595 ∷ 20 ∷ 12 ∷ 50 ∷ 746 ∷ 0 ∷ 0 ∷ 0 ∷ 0 ∷
+    0 ∷ 985 ∷ 2 ∷ 1104 ∷ 20 ∷ 1065 ∷ 7 ∷ 720 ∷ 8 ∷ 341 ∷ 127 ∷ 595 ∷ 20 ∷ 22 ∷ 60 ∷ 953 ∷ 0 ∷ 0 ∷ 0 ∷ 0 ∷ []) ∷
+    table m1 (times 41 7) (times 41 7) ∷ []
 
 -- Field 4 is the text of 23 or 58; priority and category purpose stand before and behind the local instrument. Of a refused message no field is there.
 unfoldable pub instant-part-cases : List Case
@@ -233,7 +233,7 @@ not-instant-cases =
     message (i1-with sepa half-past-nine) (refused-with 3 22 395) ∷
     message (i1-with sepa (bytes day ++ bytes time)) (refused-with 3 22 414) ∷
     message (i1-with sepa (bytes day)) (accepted 1 2 3510) ∷
-    table i1 (times 33 7) (times 33 7) ∷
+    table i1 (times 41 7) (times 41 7) ∷
     field i1 0 4 0 0 ∷
     moved i1 i1 (list 0 1) (message-refused-with 1 3 16 371) ∷
     moved i1 m1 (list 0 1) (message-refused-with 1 3 16 371) ∷

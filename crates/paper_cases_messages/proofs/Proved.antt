@@ -9,7 +9,7 @@ use Rattle.paper.specs.Rows.{leaf, group, group-under, rows, instant-changes, w
 use Rattle.paper.specs.Values.{among, lies-from, number-after, number, fits, shaped, piece, two-slashes, id, purpose, days-in, true-day, date, date-and-time, zone, date-time-zone, count, before-point, behind-point, digits, money, cents, amount, bic, country, countries, of-a-country, moved, read-after, iban, right-for, spaces-alone, allowed}
 use Rattle.paper.specs.Payments.{text-of, listed, children, all-named, all-of, child, follow, blocks, of-header, payments-of, payments-from, payments, either-of, in-payment, in-block, inherited, amount-of, sum-of, total}
 use Rattle.paper.specs.Refusals.{refuse, _or-else_, table-refusal, size-refusal, first-not, rows-at, required, left-of, first-row, missing-of, missing, ends, only-white, first-at, past, named-in, seek-in, seek, walk, no-judgement, rows-refusal, sixty-fifth, too-many, limits-refusal, text-refusal, leaf-refusal, value-refusal, values-refusal, in-both, in-neither, usage-of, usage, usage-refusal, among-texts, repeated, ids-refusal, unless, block-counts, counts-refusal, tree-refusal, unless-refused, of-reading, outcome-alone, outcome, refused, accepted, answer-to, verdict}
-use Rattle.paper.specs.Table.{part-of, start-and-length, pairs, numbers-of, written, over, table-after}
+use Rattle.paper.specs.Table.{part-of, start-and-length, first-pairs, last-pairs, numbers-of, written, over, table-after}
 use Rattle.paper.specs.Fields.{text-value, text-value-or, cents-value, issuer-text, remittance-value, plain, or-means, amount-field, remittance, fields, values-of, field-element, field-of, field-part, same-issuer, same-value, differ-from}
 use Rattle.paper.specs.Regrouping.{two-bytes, file-of, add-first, numbers-16, counted, ordinals-of, message-refused, answered, pairing, of-payments, all-values, of-outcomes, regrouping, part-for, differing-part, same-payment, often}
 use Rattle.paper_cases.specs.Cases.{header, a-bic, not-provided, block-by, block-with, sepa, fourth-of-march, block, payment-with, payment, order, study-12, weis, klein, m1-with, m1, m2, m3-by, m3, inst, half-past-nine, i1-with, i1, i2, m1-by-and, m1-by, i1-by, list, refused-with, message-refused-with, times}
@@ -30,7 +30,7 @@ infixr 20 _also_
 pub form-cases-hold : All (Holds first-profile) form-cases
 unfolding bytes is from-to one-of white text-byte capital digit letter letter-or-digit capital-or-digit value-character every same each root-tag start-tag amount-tag end-tag head declaration closed want ending in-root in-amount behind-name step ended run read leaf group group-under rows instant-changes with-row with-rows instant-rows for-new for-archived profile-by first-profile instant-profile as-archived as-new every-row name-in name row-in row-of longest-of head-of among lies-from number-after number fits shaped piece two-slashes id purpose days-in true-day date date-and-time zone date-time-zone count before-point behind-point digits money cents amount bic country countries of-a-country moved read-after iban right-for spaces-alone allowed text-of listed children all-named all-of child follow blocks of-header payments-of payments-from payments either-of in-payment in-block inherited amount-of sum-of total refuse _or-else_ table-refusal size-refusal first-not rows-at required left-of first-row missing-of missing ends only-white first-at past named-in seek-in seek walk no-judgement rows-refusal sixty-fifth too-many limits-refusal text-refusal leaf-refusal value-refusal values-refusal in-both in-neither usage-of usage usage-refusal among-texts repeated ids-refusal unless block-counts counts-refusal tree-refusal unless-refused of-reading outcome-alone outcome refused accepted answer-to verdict header a-bic not-provided block-by block-with sepa fourth-of-march block payment-with payment order study-12 weis klein m1-with m1 m2 m3-by m3 inst half-past-nine i1-with i1 i2 m1-by-and m1-by i1-by list refused-with message-refused-with times part all-parts no-parts answers expected Holds either-way begins-with replaced but m1-but m4-by m4 m4-new m5-by m5 m5-but m5-new m5-new-but bare-rows bare initiation between header-of inside-block block-of bare-payment inside-payment payment-of copies crowd nested size-cases around-cases short-cases root-cases name-cases amount-tag-cases content-cases text-cases depth-cases form-cases
 form-cases-hold =
-    refl also refl also refl also refl also refl also refl also refl also refl also refl also refl also refl also refl also refl also refl also refl also refl also refl also refl also refl also
+    refl also refl also refl also refl also refl also refl also refl also refl also refl also refl also refl also refl also refl also refl also refl also refl also refl also
     refl also refl also refl also refl also refl also refl also refl also refl also refl also refl also refl also refl also refl also refl also refl also refl also refl also refl also refl also
     refl also refl also refl also refl also refl also refl also refl also refl also refl also refl also refl also refl also refl also refl also refl also refl also refl also refl also refl also
     refl also refl also refl also refl also refl also refl also refl also refl also refl also refl also refl also refl also refl also refl also refl also refl also refl also refl also refl also
@@ -68,12 +68,12 @@ later-stage-cases-hold =
     refl also refl also refl also refl also refl also refl also refl also refl also refl also refl also refl also all-none
 
 pub field-cases-hold : All (Holds first-profile) field-cases
-unfolding bytes is from-to one-of white text-byte capital digit letter letter-or-digit capital-or-digit value-character every same each root-tag start-tag amount-tag end-tag head declaration closed want ending in-root in-amount behind-name step ended run read leaf group group-under rows instant-changes with-row with-rows instant-rows for-new for-archived profile-by first-profile instant-profile as-archived as-new every-row name-in name row-in row-of longest-of head-of among lies-from number-after number fits shaped piece two-slashes id purpose days-in true-day date date-and-time zone date-time-zone count before-point behind-point digits money cents amount bic country countries of-a-country moved read-after iban right-for spaces-alone allowed text-of listed children all-named all-of child follow blocks of-header payments-of payments-from payments either-of in-payment in-block inherited amount-of sum-of total refuse _or-else_ table-refusal size-refusal first-not rows-at required left-of first-row missing-of missing ends only-white first-at past named-in seek-in seek walk no-judgement rows-refusal sixty-fifth too-many limits-refusal text-refusal leaf-refusal value-refusal values-refusal in-both in-neither usage-of usage usage-refusal among-texts repeated ids-refusal unless block-counts counts-refusal tree-refusal unless-refused of-reading outcome-alone outcome refused accepted answer-to verdict part-of start-and-length pairs numbers-of written over table-after text-value text-value-or cents-value issuer-text remittance-value plain or-means amount-field remittance fields values-of field-element field-of field-part same-issuer same-value differ-from header a-bic not-provided block-by block-with sepa fourth-of-march block payment-with payment order study-12 weis klein m1-with m1 m2 m3-by m3 inst half-past-nine i1-with i1 i2 m1-by-and m1-by i1-by list refused-with message-refused-with times part all-parts no-parts answers expected Holds either-way begins-with replaced but m1-but m4-by m4 m4-new m5-by m5 m5-but m5-new m5-new-but bare-rows bare initiation between header-of inside-block block-of bare-payment inside-payment payment-of copies crowd nested table-cases part-cases field-cases
+unfolding bytes is from-to one-of white text-byte capital digit letter letter-or-digit capital-or-digit value-character every same each root-tag start-tag amount-tag end-tag head declaration closed want ending in-root in-amount behind-name step ended run read leaf group group-under rows instant-changes with-row with-rows instant-rows for-new for-archived profile-by first-profile instant-profile as-archived as-new every-row name-in name row-in row-of longest-of head-of among lies-from number-after number fits shaped piece two-slashes id purpose days-in true-day date date-and-time zone date-time-zone count before-point behind-point digits money cents amount bic country countries of-a-country moved read-after iban right-for spaces-alone allowed text-of listed children all-named all-of child follow blocks of-header payments-of payments-from payments either-of in-payment in-block inherited amount-of sum-of total refuse _or-else_ table-refusal size-refusal first-not rows-at required left-of first-row missing-of missing ends only-white first-at past named-in seek-in seek walk no-judgement rows-refusal sixty-fifth too-many limits-refusal text-refusal leaf-refusal value-refusal values-refusal in-both in-neither usage-of usage usage-refusal among-texts repeated ids-refusal unless block-counts counts-refusal tree-refusal unless-refused of-reading outcome-alone outcome refused accepted answer-to verdict part-of start-and-length first-pairs last-pairs numbers-of written over table-after text-value text-value-or cents-value issuer-text remittance-value plain or-means amount-field remittance fields values-of field-element field-of field-part same-issuer same-value differ-from header a-bic not-provided block-by block-with sepa fourth-of-march block payment-with payment order study-12 weis klein m1-with m1 m2 m3-by m3 inst half-past-nine i1-with i1 i2 m1-by-and m1-by i1-by list refused-with message-refused-with times part all-parts no-parts answers expected Holds either-way begins-with replaced but m1-but m4-by m4 m4-new m5-by m5 m5-but m5-new m5-new-but bare-rows bare initiation between header-of inside-block block-of bare-payment inside-payment payment-of copies crowd nested table-cases part-cases field-cases
 field-cases-hold =
     refl also refl also refl also refl also refl also refl also refl also refl also refl also refl also refl also refl also refl also refl also all-none
 
 pub regrouping-cases-hold : All (Holds first-profile) regrouping-cases
-unfolding bytes is from-to one-of white text-byte capital digit letter letter-or-digit capital-or-digit value-character every same each root-tag start-tag amount-tag end-tag head declaration closed want ending in-root in-amount behind-name step ended run read leaf group group-under rows instant-changes with-row with-rows instant-rows for-new for-archived profile-by first-profile instant-profile as-archived as-new every-row name-in name row-in row-of longest-of head-of among lies-from number-after number fits shaped piece two-slashes id purpose days-in true-day date date-and-time zone date-time-zone count before-point behind-point digits money cents amount bic country countries of-a-country moved read-after iban right-for spaces-alone allowed text-of listed children all-named all-of child follow blocks of-header payments-of payments-from payments either-of in-payment in-block inherited amount-of sum-of total refuse _or-else_ table-refusal size-refusal first-not rows-at required left-of first-row missing-of missing ends only-white first-at past named-in seek-in seek walk no-judgement rows-refusal sixty-fifth too-many limits-refusal text-refusal leaf-refusal value-refusal values-refusal in-both in-neither usage-of usage usage-refusal among-texts repeated ids-refusal unless block-counts counts-refusal tree-refusal unless-refused of-reading outcome-alone outcome refused accepted answer-to verdict part-of start-and-length pairs numbers-of written over table-after text-value text-value-or cents-value issuer-text remittance-value plain or-means amount-field remittance fields values-of field-element field-of field-part same-issuer same-value differ-from two-bytes file-of add-first numbers-16 counted ordinals-of message-refused answered pairing of-payments all-values of-outcomes regrouping part-for differing-part same-payment often header a-bic not-provided block-by block-with sepa fourth-of-march block payment-with payment order study-12 weis klein m1-with m1 m2 m3-by m3 inst half-past-nine i1-with i1 i2 m1-by-and m1-by i1-by list refused-with message-refused-with times part all-parts no-parts answers expected Holds either-way begins-with replaced but m1-but m4-by m4 m4-new m5-by m5 m5-but m5-new m5-new-but bare-rows bare initiation between header-of inside-block block-of bare-payment inside-payment payment-of copies crowd nested one-alone three-in-order its-type m5-with-type message-cases file-cases ordinal-cases no-field-cases equal-cases different-cases differing-cases often-cases regrouping-cases comparing-cases
+unfolding bytes is from-to one-of white text-byte capital digit letter letter-or-digit capital-or-digit value-character every same each root-tag start-tag amount-tag end-tag head declaration closed want ending in-root in-amount behind-name step ended run read leaf group group-under rows instant-changes with-row with-rows instant-rows for-new for-archived profile-by first-profile instant-profile as-archived as-new every-row name-in name row-in row-of longest-of head-of among lies-from number-after number fits shaped piece two-slashes id purpose days-in true-day date date-and-time zone date-time-zone count before-point behind-point digits money cents amount bic country countries of-a-country moved read-after iban right-for spaces-alone allowed text-of listed children all-named all-of child follow blocks of-header payments-of payments-from payments either-of in-payment in-block inherited amount-of sum-of total refuse _or-else_ table-refusal size-refusal first-not rows-at required left-of first-row missing-of missing ends only-white first-at past named-in seek-in seek walk no-judgement rows-refusal sixty-fifth too-many limits-refusal text-refusal leaf-refusal value-refusal values-refusal in-both in-neither usage-of usage usage-refusal among-texts repeated ids-refusal unless block-counts counts-refusal tree-refusal unless-refused of-reading outcome-alone outcome refused accepted answer-to verdict part-of start-and-length first-pairs last-pairs numbers-of written over table-after text-value text-value-or cents-value issuer-text remittance-value plain or-means amount-field remittance fields values-of field-element field-of field-part same-issuer same-value differ-from two-bytes file-of add-first numbers-16 counted ordinals-of message-refused answered pairing of-payments all-values of-outcomes regrouping part-for differing-part same-payment often header a-bic not-provided block-by block-with sepa fourth-of-march block payment-with payment order study-12 weis klein m1-with m1 m2 m3-by m3 inst half-past-nine i1-with i1 i2 m1-by-and m1-by i1-by list refused-with message-refused-with times part all-parts no-parts answers expected Holds either-way begins-with replaced but m1-but m4-by m4 m4-new m5-by m5 m5-but m5-new m5-new-but bare-rows bare initiation between header-of inside-block block-of bare-payment inside-payment payment-of copies crowd nested one-alone three-in-order its-type m5-with-type message-cases file-cases ordinal-cases no-field-cases equal-cases different-cases differing-cases often-cases regrouping-cases comparing-cases
 regrouping-cases-hold =
     refl also refl also refl also refl also refl also refl also refl also refl also refl also refl also refl also refl also refl also refl also refl also refl also refl also refl also refl also
     refl also refl also refl also refl also refl also refl also refl also refl also refl also refl also refl also refl also refl also refl also refl also refl also refl also refl also refl also
@@ -81,7 +81,7 @@ regrouping-cases-hold =
     refl also refl also refl also refl also refl also refl also refl also refl also refl also all-none
 
 pub comparing-cases-hold : All (Holds first-profile) comparing-cases
-unfolding bytes is from-to one-of white text-byte capital digit letter letter-or-digit capital-or-digit value-character every same each root-tag start-tag amount-tag end-tag head declaration closed want ending in-root in-amount behind-name step ended run read leaf group group-under rows instant-changes with-row with-rows instant-rows for-new for-archived profile-by first-profile instant-profile as-archived as-new every-row name-in name row-in row-of longest-of head-of among lies-from number-after number fits shaped piece two-slashes id purpose days-in true-day date date-and-time zone date-time-zone count before-point behind-point digits money cents amount bic country countries of-a-country moved read-after iban right-for spaces-alone allowed text-of listed children all-named all-of child follow blocks of-header payments-of payments-from payments either-of in-payment in-block inherited amount-of sum-of total refuse _or-else_ table-refusal size-refusal first-not rows-at required left-of first-row missing-of missing ends only-white first-at past named-in seek-in seek walk no-judgement rows-refusal sixty-fifth too-many limits-refusal text-refusal leaf-refusal value-refusal values-refusal in-both in-neither usage-of usage usage-refusal among-texts repeated ids-refusal unless block-counts counts-refusal tree-refusal unless-refused of-reading outcome-alone outcome refused accepted answer-to verdict part-of start-and-length pairs numbers-of written over table-after text-value text-value-or cents-value issuer-text remittance-value plain or-means amount-field remittance fields values-of field-element field-of field-part same-issuer same-value differ-from two-bytes file-of add-first numbers-16 counted ordinals-of message-refused answered pairing of-payments all-values of-outcomes regrouping part-for differing-part same-payment often header a-bic not-provided block-by block-with sepa fourth-of-march block payment-with payment order study-12 weis klein m1-with m1 m2 m3-by m3 inst half-past-nine i1-with i1 i2 m1-by-and m1-by i1-by list refused-with message-refused-with times part all-parts no-parts answers expected Holds either-way begins-with replaced but m1-but m4-by m4 m4-new m5-by m5 m5-but m5-new m5-new-but bare-rows bare initiation between header-of inside-block block-of bare-payment inside-payment payment-of copies crowd nested one-alone three-in-order its-type m5-with-type message-cases file-cases ordinal-cases no-field-cases equal-cases different-cases differing-cases often-cases regrouping-cases comparing-cases
+unfolding bytes is from-to one-of white text-byte capital digit letter letter-or-digit capital-or-digit value-character every same each root-tag start-tag amount-tag end-tag head declaration closed want ending in-root in-amount behind-name step ended run read leaf group group-under rows instant-changes with-row with-rows instant-rows for-new for-archived profile-by first-profile instant-profile as-archived as-new every-row name-in name row-in row-of longest-of head-of among lies-from number-after number fits shaped piece two-slashes id purpose days-in true-day date date-and-time zone date-time-zone count before-point behind-point digits money cents amount bic country countries of-a-country moved read-after iban right-for spaces-alone allowed text-of listed children all-named all-of child follow blocks of-header payments-of payments-from payments either-of in-payment in-block inherited amount-of sum-of total refuse _or-else_ table-refusal size-refusal first-not rows-at required left-of first-row missing-of missing ends only-white first-at past named-in seek-in seek walk no-judgement rows-refusal sixty-fifth too-many limits-refusal text-refusal leaf-refusal value-refusal values-refusal in-both in-neither usage-of usage usage-refusal among-texts repeated ids-refusal unless block-counts counts-refusal tree-refusal unless-refused of-reading outcome-alone outcome refused accepted answer-to verdict part-of start-and-length first-pairs last-pairs numbers-of written over table-after text-value text-value-or cents-value issuer-text remittance-value plain or-means amount-field remittance fields values-of field-element field-of field-part same-issuer same-value differ-from two-bytes file-of add-first numbers-16 counted ordinals-of message-refused answered pairing of-payments all-values of-outcomes regrouping part-for differing-part same-payment often header a-bic not-provided block-by block-with sepa fourth-of-march block payment-with payment order study-12 weis klein m1-with m1 m2 m3-by m3 inst half-past-nine i1-with i1 i2 m1-by-and m1-by i1-by list refused-with message-refused-with times part all-parts no-parts answers expected Holds either-way begins-with replaced but m1-but m4-by m4 m4-new m5-by m5 m5-but m5-new m5-new-but bare-rows bare initiation between header-of inside-block block-of bare-payment inside-payment payment-of copies crowd nested one-alone three-in-order its-type m5-with-type message-cases file-cases ordinal-cases no-field-cases equal-cases different-cases differing-cases often-cases regrouping-cases comparing-cases
 comparing-cases-hold =
     refl also refl also refl also refl also refl also refl also refl also refl also refl also refl also refl also refl also refl also refl also refl also all-none
 
@@ -92,19 +92,19 @@ alike-cases-hold =
     refl also refl also refl also refl also refl also refl also refl also refl also refl also refl also refl also refl also refl also refl also refl also refl also refl also refl also refl also all-none
 
 pub withdrawn-message-cases-hold : All (Holds first-profile) withdrawn-message-cases
-unfolding bytes is from-to one-of white text-byte capital digit letter letter-or-digit capital-or-digit value-character every same each root-tag start-tag amount-tag end-tag head declaration closed want ending in-root in-amount behind-name step ended run read leaf group group-under rows instant-changes with-row with-rows instant-rows for-new for-archived profile-by first-profile instant-profile as-archived as-new every-row name-in name row-in row-of longest-of head-of among lies-from number-after number fits shaped piece two-slashes id purpose days-in true-day date date-and-time zone date-time-zone count before-point behind-point digits money cents amount bic country countries of-a-country moved read-after iban right-for spaces-alone allowed text-of listed children all-named all-of child follow blocks of-header payments-of payments-from payments either-of in-payment in-block inherited amount-of sum-of total refuse _or-else_ table-refusal size-refusal first-not rows-at required left-of first-row missing-of missing ends only-white first-at past named-in seek-in seek walk no-judgement rows-refusal sixty-fifth too-many limits-refusal text-refusal leaf-refusal value-refusal values-refusal in-both in-neither usage-of usage usage-refusal among-texts repeated ids-refusal unless block-counts counts-refusal tree-refusal unless-refused of-reading outcome-alone outcome refused accepted answer-to verdict part-of start-and-length pairs numbers-of written over table-after text-value text-value-or cents-value issuer-text remittance-value plain or-means amount-field remittance fields values-of field-element field-of field-part same-issuer same-value differ-from two-bytes file-of add-first numbers-16 counted ordinals-of message-refused answered pairing of-payments all-values of-outcomes regrouping part-for differing-part same-payment often header a-bic not-provided block-by block-with sepa fourth-of-march block payment-with payment order study-12 weis klein m1-with m1 m2 m3-by m3 inst half-past-nine i1-with i1 i2 m1-by-and m1-by i1-by list refused-with message-refused-with times part all-parts no-parts answers expected Holds either-way begins-with replaced but m1-but m4-by m4 m4-new m5-by m5 m5-but m5-new m5-new-but bare-rows bare initiation between header-of inside-block block-of bare-payment inside-payment payment-of copies crowd nested one-alone three-in-order its-type m5-with-type m1-holding unprovided-but withdrawn-row-cases withdrawn-order-cases withdrawn-regrouping-cases withdrawn-instant-cases withdrawn-message-cases
+unfolding bytes is from-to one-of white text-byte capital digit letter letter-or-digit capital-or-digit value-character every same each root-tag start-tag amount-tag end-tag head declaration closed want ending in-root in-amount behind-name step ended run read leaf group group-under rows instant-changes with-row with-rows instant-rows for-new for-archived profile-by first-profile instant-profile as-archived as-new every-row name-in name row-in row-of longest-of head-of among lies-from number-after number fits shaped piece two-slashes id purpose days-in true-day date date-and-time zone date-time-zone count before-point behind-point digits money cents amount bic country countries of-a-country moved read-after iban right-for spaces-alone allowed text-of listed children all-named all-of child follow blocks of-header payments-of payments-from payments either-of in-payment in-block inherited amount-of sum-of total refuse _or-else_ table-refusal size-refusal first-not rows-at required left-of first-row missing-of missing ends only-white first-at past named-in seek-in seek walk no-judgement rows-refusal sixty-fifth too-many limits-refusal text-refusal leaf-refusal value-refusal values-refusal in-both in-neither usage-of usage usage-refusal among-texts repeated ids-refusal unless block-counts counts-refusal tree-refusal unless-refused of-reading outcome-alone outcome refused accepted answer-to verdict part-of start-and-length first-pairs last-pairs numbers-of written over table-after text-value text-value-or cents-value issuer-text remittance-value plain or-means amount-field remittance fields values-of field-element field-of field-part same-issuer same-value differ-from two-bytes file-of add-first numbers-16 counted ordinals-of message-refused answered pairing of-payments all-values of-outcomes regrouping part-for differing-part same-payment often header a-bic not-provided block-by block-with sepa fourth-of-march block payment-with payment order study-12 weis klein m1-with m1 m2 m3-by m3 inst half-past-nine i1-with i1 i2 m1-by-and m1-by i1-by list refused-with message-refused-with times part all-parts no-parts answers expected Holds either-way begins-with replaced but m1-but m4-by m4 m4-new m5-by m5 m5-but m5-new m5-new-but bare-rows bare initiation between header-of inside-block block-of bare-payment inside-payment payment-of copies crowd nested one-alone three-in-order its-type m5-with-type m1-holding unprovided-but withdrawn-row-cases withdrawn-order-cases withdrawn-regrouping-cases withdrawn-instant-cases withdrawn-message-cases
 withdrawn-message-cases-hold =
     refl also refl also refl also refl also refl also refl also refl also refl also refl also refl also refl also refl also refl also refl also refl also refl also refl also refl also refl also
     refl also refl also refl also refl also refl also refl also refl also refl also refl also refl also refl also refl also refl also refl also refl also refl also refl also refl also refl also
     refl also refl also refl also refl also refl also refl also all-none
 
 pub withdrawn-regrouping-cases-hold : All (Holds first-profile) withdrawn-regrouping-cases
-unfolding bytes is from-to one-of white text-byte capital digit letter letter-or-digit capital-or-digit value-character every same each root-tag start-tag amount-tag end-tag head declaration closed want ending in-root in-amount behind-name step ended run read leaf group group-under rows instant-changes with-row with-rows instant-rows for-new for-archived profile-by first-profile instant-profile as-archived as-new every-row name-in name row-in row-of longest-of head-of among lies-from number-after number fits shaped piece two-slashes id purpose days-in true-day date date-and-time zone date-time-zone count before-point behind-point digits money cents amount bic country countries of-a-country moved read-after iban right-for spaces-alone allowed text-of listed children all-named all-of child follow blocks of-header payments-of payments-from payments either-of in-payment in-block inherited amount-of sum-of total refuse _or-else_ table-refusal size-refusal first-not rows-at required left-of first-row missing-of missing ends only-white first-at past named-in seek-in seek walk no-judgement rows-refusal sixty-fifth too-many limits-refusal text-refusal leaf-refusal value-refusal values-refusal in-both in-neither usage-of usage usage-refusal among-texts repeated ids-refusal unless block-counts counts-refusal tree-refusal unless-refused of-reading outcome-alone outcome refused accepted answer-to verdict part-of start-and-length pairs numbers-of written over table-after text-value text-value-or cents-value issuer-text remittance-value plain or-means amount-field remittance fields values-of field-element field-of field-part same-issuer same-value differ-from two-bytes file-of add-first numbers-16 counted ordinals-of message-refused answered pairing of-payments all-values of-outcomes regrouping part-for differing-part same-payment often header a-bic not-provided block-by block-with sepa fourth-of-march block payment-with payment order study-12 weis klein m1-with m1 m2 m3-by m3 inst half-past-nine i1-with i1 i2 m1-by-and m1-by i1-by list refused-with message-refused-with times part all-parts no-parts answers expected Holds either-way begins-with replaced but m1-but m4-by m4 m4-new m5-by m5 m5-but m5-new m5-new-but bare-rows bare initiation between header-of inside-block block-of bare-payment inside-payment payment-of copies crowd nested one-alone three-in-order its-type m5-with-type m1-holding unprovided-but withdrawn-row-cases withdrawn-order-cases withdrawn-regrouping-cases withdrawn-instant-cases withdrawn-message-cases
+unfolding bytes is from-to one-of white text-byte capital digit letter letter-or-digit capital-or-digit value-character every same each root-tag start-tag amount-tag end-tag head declaration closed want ending in-root in-amount behind-name step ended run read leaf group group-under rows instant-changes with-row with-rows instant-rows for-new for-archived profile-by first-profile instant-profile as-archived as-new every-row name-in name row-in row-of longest-of head-of among lies-from number-after number fits shaped piece two-slashes id purpose days-in true-day date date-and-time zone date-time-zone count before-point behind-point digits money cents amount bic country countries of-a-country moved read-after iban right-for spaces-alone allowed text-of listed children all-named all-of child follow blocks of-header payments-of payments-from payments either-of in-payment in-block inherited amount-of sum-of total refuse _or-else_ table-refusal size-refusal first-not rows-at required left-of first-row missing-of missing ends only-white first-at past named-in seek-in seek walk no-judgement rows-refusal sixty-fifth too-many limits-refusal text-refusal leaf-refusal value-refusal values-refusal in-both in-neither usage-of usage usage-refusal among-texts repeated ids-refusal unless block-counts counts-refusal tree-refusal unless-refused of-reading outcome-alone outcome refused accepted answer-to verdict part-of start-and-length first-pairs last-pairs numbers-of written over table-after text-value text-value-or cents-value issuer-text remittance-value plain or-means amount-field remittance fields values-of field-element field-of field-part same-issuer same-value differ-from two-bytes file-of add-first numbers-16 counted ordinals-of message-refused answered pairing of-payments all-values of-outcomes regrouping part-for differing-part same-payment often header a-bic not-provided block-by block-with sepa fourth-of-march block payment-with payment order study-12 weis klein m1-with m1 m2 m3-by m3 inst half-past-nine i1-with i1 i2 m1-by-and m1-by i1-by list refused-with message-refused-with times part all-parts no-parts answers expected Holds either-way begins-with replaced but m1-but m4-by m4 m4-new m5-by m5 m5-but m5-new m5-new-but bare-rows bare initiation between header-of inside-block block-of bare-payment inside-payment payment-of copies crowd nested one-alone three-in-order its-type m5-with-type m1-holding unprovided-but withdrawn-row-cases withdrawn-order-cases withdrawn-regrouping-cases withdrawn-instant-cases withdrawn-message-cases
 withdrawn-regrouping-cases-hold =
     refl also refl also refl also refl also refl also refl also refl also refl also refl also refl also refl also refl also refl also refl also refl also refl also refl also refl also refl also
     refl also refl also refl also refl also refl also refl also all-none
 
 pub withdrawn-instant-cases-hold : All (Holds instant-profile) withdrawn-instant-cases
-unfolding bytes is from-to one-of white text-byte capital digit letter letter-or-digit capital-or-digit value-character every same each root-tag start-tag amount-tag end-tag head declaration closed want ending in-root in-amount behind-name step ended run read leaf group group-under rows instant-changes with-row with-rows instant-rows for-new for-archived profile-by first-profile instant-profile as-archived as-new every-row name-in name row-in row-of longest-of head-of among lies-from number-after number fits shaped piece two-slashes id purpose days-in true-day date date-and-time zone date-time-zone count before-point behind-point digits money cents amount bic country countries of-a-country moved read-after iban right-for spaces-alone allowed text-of listed children all-named all-of child follow blocks of-header payments-of payments-from payments either-of in-payment in-block inherited amount-of sum-of total refuse _or-else_ table-refusal size-refusal first-not rows-at required left-of first-row missing-of missing ends only-white first-at past named-in seek-in seek walk no-judgement rows-refusal sixty-fifth too-many limits-refusal text-refusal leaf-refusal value-refusal values-refusal in-both in-neither usage-of usage usage-refusal among-texts repeated ids-refusal unless block-counts counts-refusal tree-refusal unless-refused of-reading outcome-alone outcome refused accepted answer-to verdict part-of start-and-length pairs numbers-of written over table-after text-value text-value-or cents-value issuer-text remittance-value plain or-means amount-field remittance fields values-of field-element field-of field-part same-issuer same-value differ-from two-bytes file-of add-first numbers-16 counted ordinals-of message-refused answered pairing of-payments all-values of-outcomes regrouping part-for differing-part same-payment often header a-bic not-provided block-by block-with sepa fourth-of-march block payment-with payment order study-12 weis klein m1-with m1 m2 m3-by m3 inst half-past-nine i1-with i1 i2 m1-by-and m1-by i1-by list refused-with message-refused-with times part all-parts no-parts answers expected Holds either-way begins-with replaced but m1-but m4-by m4 m4-new m5-by m5 m5-but m5-new m5-new-but bare-rows bare initiation between header-of inside-block block-of bare-payment inside-payment payment-of copies crowd nested one-alone three-in-order its-type m5-with-type m1-holding unprovided-but withdrawn-row-cases withdrawn-order-cases withdrawn-regrouping-cases withdrawn-instant-cases withdrawn-message-cases
+unfolding bytes is from-to one-of white text-byte capital digit letter letter-or-digit capital-or-digit value-character every same each root-tag start-tag amount-tag end-tag head declaration closed want ending in-root in-amount behind-name step ended run read leaf group group-under rows instant-changes with-row with-rows instant-rows for-new for-archived profile-by first-profile instant-profile as-archived as-new every-row name-in name row-in row-of longest-of head-of among lies-from number-after number fits shaped piece two-slashes id purpose days-in true-day date date-and-time zone date-time-zone count before-point behind-point digits money cents amount bic country countries of-a-country moved read-after iban right-for spaces-alone allowed text-of listed children all-named all-of child follow blocks of-header payments-of payments-from payments either-of in-payment in-block inherited amount-of sum-of total refuse _or-else_ table-refusal size-refusal first-not rows-at required left-of first-row missing-of missing ends only-white first-at past named-in seek-in seek walk no-judgement rows-refusal sixty-fifth too-many limits-refusal text-refusal leaf-refusal value-refusal values-refusal in-both in-neither usage-of usage usage-refusal among-texts repeated ids-refusal unless block-counts counts-refusal tree-refusal unless-refused of-reading outcome-alone outcome refused accepted answer-to verdict part-of start-and-length first-pairs last-pairs numbers-of written over table-after text-value text-value-or cents-value issuer-text remittance-value plain or-means amount-field remittance fields values-of field-element field-of field-part same-issuer same-value differ-from two-bytes file-of add-first numbers-16 counted ordinals-of message-refused answered pairing of-payments all-values of-outcomes regrouping part-for differing-part same-payment often header a-bic not-provided block-by block-with sepa fourth-of-march block payment-with payment order study-12 weis klein m1-with m1 m2 m3-by m3 inst half-past-nine i1-with i1 i2 m1-by-and m1-by i1-by list refused-with message-refused-with times part all-parts no-parts answers expected Holds either-way begins-with replaced but m1-but m4-by m4 m4-new m5-by m5 m5-but m5-new m5-new-but bare-rows bare initiation between header-of inside-block block-of bare-payment inside-payment payment-of copies crowd nested one-alone three-in-order its-type m5-with-type m1-holding unprovided-but withdrawn-row-cases withdrawn-order-cases withdrawn-regrouping-cases withdrawn-instant-cases withdrawn-message-cases
 withdrawn-instant-cases-hold =
     refl also refl also refl also refl also refl also refl also refl also refl also refl also refl also refl also refl also refl also refl also all-none

@@ -97,8 +97,8 @@ unfoldable pub m1-but : (old new : String) → List ℕ
 m1-but old new = but old new m1
 
 -- M4 has every optional row. Its first block books singly, has priority and category purpose, a BIC and charges; its second has no row 16, NOTPROVIDED and an ultimate
--- debtor. Its first payment has an ultimate debtor of its own and free text; its second a reference with issuer; its third a row 16 and charges of its own and a
--- reference without issuer. So with another agent of the second block's debtor; with a BIC there it may be new.
+-- debtor. Its first payment has an ultimate debtor of its own, a BIC of the creditor's agent and free text; its second a reference with issuer; its third a row 16 and
+-- charges of its own and a reference without issuer. So with another agent of the second block's debtor; with a BIC there it may be new.
 unfoldable pub m4-by : (agent : List ℕ) → List ℕ
 m4-by agent =
     root-tag ++

@@ -4,21 +4,21 @@ use Rattle.paper.specs.Form.{declaration}
 use Rattle.paper_cases.specs.Cases.{times, m3}
 use Rattle.paper_cases_messages.specs.Changed.{Case, table, parts, archived, part, no-parts, but, m1-but, m4, m5}
 
--- Sixteen numbers for each payment: block, six pairs, euros, cents, the payment's `<`. All later numbers keep their old values, and after a refusal all do.
+-- Twenty numbers for each payment: block, six pairs, euros, cents, the payment's `<`, two pairs. All later numbers keep their old values, and after a refusal all do.
 unfoldable pub table-cases : List Case
 table-cases =
-    archived (table m4 (times 50 7)
-    (0 ∷ 755 ∷ 2 ∷ 982 ∷ 20 ∷ 944 ∷ 6 ∷ 839 ∷ 8 ∷ 369 ∷ 93 ∷ 570 ∷ 20 ∷ 12 ∷ 50 ∷ 702 ∷
-    0 ∷ 1178 ∷ 2 ∷ 1297 ∷ 20 ∷ 1258 ∷ 7 ∷ 0 ∷ 0 ∷ 369 ∷ 93 ∷ 570 ∷ 20 ∷ 22 ∷ 60 ∷ 1146 ∷
-    1 ∷ 1870 ∷ 2 ∷ 2093 ∷ 22 ∷ 2055 ∷ 6 ∷ 1812 ∷ 8 ∷ 1903 ∷ 64 ∷ 1681 ∷ 16 ∷ 0 ∷ 5 ∷ 1838 ∷
+    archived (table m4 (times 62 7)
+    (0 ∷ 755 ∷ 2 ∷ 982 ∷ 20 ∷ 944 ∷ 6 ∷ 839 ∷ 8 ∷ 369 ∷ 93 ∷ 570 ∷ 20 ∷ 12 ∷ 50 ∷ 702 ∷ 892 ∷ 11 ∷ 1105 ∷ 9 ∷
+    0 ∷ 1178 ∷ 2 ∷ 1297 ∷ 20 ∷ 1258 ∷ 7 ∷ 0 ∷ 0 ∷ 369 ∷ 93 ∷ 570 ∷ 20 ∷ 22 ∷ 60 ∷ 1146 ∷ 0 ∷ 0 ∷ 1432 ∷ 4 ∷
+    1 ∷ 1870 ∷ 2 ∷ 2093 ∷ 22 ∷ 2055 ∷ 6 ∷ 1812 ∷ 8 ∷ 1903 ∷ 64 ∷ 1681 ∷ 16 ∷ 0 ∷ 5 ∷ 1838 ∷ 0 ∷ 0 ∷ 2214 ∷ 4 ∷
     7 ∷ 7 ∷ [])) ∷
-    table (declaration ++ m3) (times 33 7)
-    (0 ∷ 700 ∷ 2 ∷ 817 ∷ 20 ∷ 779 ∷ 6 ∷ 642 ∷ 8 ∷ 379 ∷ 30 ∷ 517 ∷ 20 ∷ 12 ∷ 50 ∷ 668 ∷
-    1 ∷ 1270 ∷ 2 ∷ 1389 ∷ 20 ∷ 1350 ∷ 7 ∷ 0 ∷ 0 ∷ 989 ∷ 30 ∷ 1127 ∷ 20 ∷ 22 ∷ 60 ∷ 1238 ∷ 7 ∷ []) ∷
-    archived (table m5 (times 16 7)
-    (0 ∷ 802 ∷ 2 ∷ 986 ∷ 20 ∷ 948 ∷ 6 ∷ 702 ∷ 8 ∷ 368 ∷ 91 ∷ 567 ∷ 20 ∷ 12 ∷ 50 ∷ 749 ∷ [])) ∷
-    archived (table (but "12.5" "12.6" m5) (times 17 7) (times 17 7)) ∷
-    table (m1-but "M1" "") (times 17 7) (times 17 7) ∷
+    table (declaration ++ m3) (times 41 7)
+    (0 ∷ 700 ∷ 2 ∷ 817 ∷ 20 ∷ 779 ∷ 6 ∷ 642 ∷ 8 ∷ 379 ∷ 30 ∷ 517 ∷ 20 ∷ 12 ∷ 50 ∷ 668 ∷ 0 ∷ 0 ∷ 0 ∷ 0 ∷
+    1 ∷ 1270 ∷ 2 ∷ 1389 ∷ 20 ∷ 1350 ∷ 7 ∷ 0 ∷ 0 ∷ 989 ∷ 30 ∷ 1127 ∷ 20 ∷ 22 ∷ 60 ∷ 1238 ∷ 0 ∷ 0 ∷ 0 ∷ 0 ∷ 7 ∷ []) ∷
+    archived (table m5 (times 20 7)
+    (0 ∷ 802 ∷ 2 ∷ 986 ∷ 20 ∷ 948 ∷ 6 ∷ 702 ∷ 8 ∷ 368 ∷ 91 ∷ 567 ∷ 20 ∷ 12 ∷ 50 ∷ 749 ∷ 899 ∷ 8 ∷ 1186 ∷ 4 ∷ [])) ∷
+    archived (table (but "12.5" "12.6" m5) (times 21 7) (times 21 7)) ∷
+    table (m1-but "M1" "") (times 21 7) (times 21 7) ∷
     table [] (1 ∷ 2 ∷ 3 ∷ []) (1 ∷ 2 ∷ 3 ∷ []) ∷ []
 
 -- Fields 1 to 17 of M4's payments, between the unknown fields 0 and 18; absent ones are the empty part at 0.

@@ -6,13 +6,11 @@ use Rattle.paper.specs.Refusals.{accepted}
 use Rattle.paper_cases.specs.Cases.{refused-with, times, m1, m1-with}
 use Rattle.paper_cases_messages.specs.Changed.{Case, message, lent, m1-but, replaced, nested, initiation}
 
--- 14: the table has under 1,024 numbers; before all else. 1: over 32,768 bytes; before 2.
+-- 14: the table has under 1,280 numbers; before all else (M1 with 1,279 and 1,280: crates/paper_cases/specs/Cases.antt). 1: over 32,768 bytes; before 2.
 unfoldable pub size-cases : List Case
 size-cases =
-    lent 1024 m1 (accepted 1 2 3510) ∷
-    lent 1023 m1 (refused-with 14 0 0) ∷
-    lent 1023 [] (refused-with 14 0 0) ∷
-    lent 1023 (times 32769 32) (refused-with 14 0 0) ∷
+    lent 1279 [] (refused-with 14 0 0) ∷
+    lent 1279 (times 32769 32) (refused-with 14 0 0) ∷
     message (times 32769 32) (refused-with 1 0 32768) ∷
     message (times 32769 38) (refused-with 1 0 32768) ∷
     message (times 32768 32) (refused-with 2 0 32768) ∷

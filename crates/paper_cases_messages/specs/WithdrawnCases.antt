@@ -50,7 +50,7 @@ withdrawn-row-cases =
 -- Where it comes: after 14, 1 to 5 and every leaf before it in the file, before every leaf behind it and before 9 to 13.
 unfoldable pub withdrawn-order-cases : List Case
 withdrawn-order-cases =
-    lent 1023 (m1-by not-provided) (refused-with 14 0 0) ∷
+    lent 1279 (m1-by not-provided) (refused-with 14 0 0) ∷
     either-way (m1-by not-provided ++ bytes "x") (refused-with 2 0 1096) ∷
     either-way (unprovided-but "</PmtInf>" "<Other></Other></PmtInf>") (refused-with 3 10 1056) ∷
     either-way (unprovided-but "<EndToEndId>E2</EndToEndId>" "") (refused-with 4 40 867) ∷
@@ -72,11 +72,11 @@ withdrawn-order-cases =
     new-and-archived (unprovided-but "<NbOfTxs>2" "<NbOfTxs>3") (refused-with 28 32 543) (refused-with 12 6 147) ∷
     new-and-archived (unprovided-but "<CtrlSum>35.10" "<CtrlSum>35.11") (refused-with 28 32 543) (refused-with 13 7 167) ∷
     -- after 28 nothing is written, and no field is there
-    table (m1-by not-provided) (times 33 7) (times 33 7) ∷
+    table (m1-by not-provided) (times 41 7) (times 41 7) ∷
     parts m5 0 no-parts ∷
-    archived (table (m1-by not-provided) (times 33 7)
-    (0 ∷ 672 ∷ 2 ∷ 789 ∷ 20 ∷ 751 ∷ 6 ∷ 614 ∷ 8 ∷ 341 ∷ 30 ∷ 479 ∷ 20 ∷ 12 ∷ 50 ∷ 640 ∷
-    0 ∷ 879 ∷ 2 ∷ 998 ∷ 20 ∷ 959 ∷ 7 ∷ 614 ∷ 8 ∷ 341 ∷ 30 ∷ 479 ∷ 20 ∷ 22 ∷ 60 ∷ 847 ∷ 7 ∷ [])) ∷ []
+    archived (table (m1-by not-provided) (times 41 7)
+    (0 ∷ 672 ∷ 2 ∷ 789 ∷ 20 ∷ 751 ∷ 6 ∷ 614 ∷ 8 ∷ 341 ∷ 30 ∷ 479 ∷ 20 ∷ 12 ∷ 50 ∷ 640 ∷ 0 ∷ 0 ∷ 0 ∷ 0 ∷
+    0 ∷ 879 ∷ 2 ∷ 998 ∷ 20 ∷ 959 ∷ 7 ∷ 614 ∷ 8 ∷ 341 ∷ 30 ∷ 479 ∷ 20 ∷ 22 ∷ 60 ∷ 847 ∷ 0 ∷ 0 ∷ 0 ∷ 0 ∷ 7 ∷ [])) ∷ []
 
 -- Of a regrouping only the first message may be archived. A payment whose agent was not provided then equals none of the second's: they differ in field 7, or in a lower one.
 unfoldable pub withdrawn-regrouping-cases : List Case

@@ -316,9 +316,11 @@ host-cases =
     hold 4 1 ∷
     hold 7 1 ∷
     hold 8 2 ∷
-    hold 4095 1023 ∷
-    hold 4096 1024 ∷
-    hold 4099 1024 ∷ []
+    hold 5116 1279 ∷
+    hold 5119 1279 ∷
+    hold 5120 1280 ∷
+    hold 5123 1280 ∷
+    hold 5124 1281 ∷ []
 
 unfoldable pub border-cases : List Case
 border-cases =
