@@ -13,7 +13,7 @@ use lib.Dec.{eqb}
 use Rattle.paper.specs.Bytes.{Every, every-none, every-more, every, same, each}
 use Rattle.paper.specs.Form.{Element}
 use Rattle.paper.specs.Values.{among, cents}
-use Rattle.paper.specs.Payments.{either-of, text-of, instructed-amount, amount-of}
+use Rattle.paper.specs.Payments.{child, follow, either-of, text-of, instructed-amount, amount-of}
 use Rattle.paper.specs.Computed.Reading.{Reading, root-is, stops-at, read}
 use Rattle.paper.specs.Refusals.{Refusal, _or-else_, size-refusal, accepted-with, unless-refused, of-reading}
 use Rattle.paper.specs.Accepted.{All, all-none, all-more}
@@ -151,6 +151,15 @@ pub or-else-none : (a : Option Refusal) → a or-else none ≡ a
 unfolding _or-else_
 or-else-none none = refl
 or-else-none (some x) = refl
+
+-- a child is at the end of a route of one row
+pub follow-one : (k : ℕ) (t : Element) → follow (k ∷ []) t ≡ child k t
+unfolding follow
+follow-one k t = go (child k t)
+  where
+    go : (o : Option Element) → _≡_ {A = Option Element} (elim o [ none ↦ none | some u ↦ some u ]) o
+    go none = refl
+    go (some u) = refl
 
 -- the amount of a payment where one stands, and where none does
 pub amount-is : (t : Element) {u : Element} → instructed-amount t ≡ some u → amount-of t ≡ cents (text-of u)

@@ -11,7 +11,7 @@ use Rattle.paper.specs.Form.{Head, Element, holding-text}
 use Rattle.paper.specs.Rows.{Profile, row-of}
 use Rattle.paper.specs.Payments.{Payment, text-of, child, follow, payments, in-payment, in-block, either-of, inherited}
 use Rattle.paper.specs.Refusals.{accepted-with, among-texts, outcome-alone}
-use Rattle.paper.specs.Table.{part-of, pairs}
+use Rattle.paper.specs.Table.{part-of, pairs, first-pairs, last-pairs}
 use Rattle.paper.specs.Fields.{Field, plain, or-means, amount-field, remittance, fields, field-element, field-of}
 use Rattle.paper.specs.Accepted.{All, all-none, all-more, EachWith, each-none, each-more, AnyElement, RowsKept, Accepted}
 use Rattle.paper.specs.Regrouping.{At, at-first, at-later}
@@ -34,7 +34,7 @@ either-leaf a-leaf k = a-leaf
 
 -- the pairs of the table that are leaves
 unfoldable pub leaf-pairs : List Bool
-leaf-pairs = true ∷ true ∷ true ∷ true ∷ false ∷ true ∷ []
+leaf-pairs = true ∷ true ∷ true ∷ true ∷ false ∷ true ∷ true ∷ true ∷ []
 
 -- a route whose test says so leads to a leaf, if it leads anywhere
 module _ (profile : Profile) (proper : Proper profile) where
@@ -93,14 +93,23 @@ module _ (profile : Profile) (proper : Proper profile) where
 
     -- of the pairs of the table, all but the fifth
     pairs-leaves : EachWith (λ b o. b ≡ true → LeafOrNone o) leaf-pairs (pairs p)
-    unfolding leaf-pairs pairs among-texts same
+    unfolding leaf-pairs pairs first-pairs last-pairs among-texts same
     pairs-leaves =
         each-more (λ _. own-leaf _ refl)
         (each-more (λ _. own-leaf _ refl)
         (each-more (λ _. own-leaf _ refl)
         (each-more (λ _. inherited-leaf _ refl refl)
         (each-more (λ e. false-not-true e)
-        (each-more (λ _. block-leaf _ refl) each-none)))))
+        (each-more (λ _. block-leaf _ refl)
+        (each-more (λ _. own-leaf _ refl)
+        (each-more (λ _. either-leaf (own-leaf _ refl) (own-leaf _ refl)) each-none)))))))
+
+-- The pairs of the table are of fields 10, 14, 13, 8, of all that row 16 holds, and of fields 6, 12 and 17.
+pub pairs-are-fields : (p : Payment)
+    → pairs p ≡
+    field-element 10 p ∷ field-element 14 p ∷ field-element 13 p ∷ field-element 8 p ∷ inherited (16 ∷ []) p ∷ field-element 6 p ∷ field-element 12 p ∷ field-element 17 p ∷ []
+unfolding pairs first-pairs last-pairs field-element fields plain or-means amount-field remittance
+pairs-are-fields p = refl
 
 -- The bytes of the part that an element holds are its text; of one that is absent nothing is said.
 pub record HasText (s : List ℕ) (o : Option Element) : Type 0 where

@@ -13,4 +13,5 @@ pub mod Present
 pub mod RightValues
 pub mod Texts
 pub mod Leaves
+pub mod Absent
 pub mod AsBefore

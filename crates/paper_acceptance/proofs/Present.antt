@@ -11,9 +11,9 @@ use Rattle.paper.specs.Rows.{Row, Profile, row-of}
 use Rattle.paper.specs.Payments.{Payment, all-of, child, follow, blocks, of-header, header-count, header-sum, block-id, block-count, block-sum, instructed-amount, payments, payments-of, payments-from, in-payment, in-block, either-of, inherited}
 use Rattle.paper.specs.Refusals.{among-texts}
 use Rattle.paper.specs.Fields.{plain, or-means, amount-field, remittance, fields}
-use Rattle.paper.specs.Table.{pairs, must-be-there, PairsThere}
+use Rattle.paper.specs.Table.{pairs, first-pairs, last-pairs, must-be-there, PairsThere}
 use Rattle.paper.specs.Accepted.{All, all-none, all-more, EachWith, each-none, each-more, There, AnyElement, RowsKept, Used, UsageKept, AcceptedTree}
-use Rattle.paper.proofs.Laws.{false-not-true, some-not-none, both-left, both-right, all-joined, all-map}
+use Rattle.paper.proofs.Laws.{false-not-true, some-not-none, both-left, both-right, all-joined, all-map, follow-one}
 use Rattle.paper_acceptance.proofs.Routes.{must-take, steps, step-all, choice-there, follow-conforms, follow-there, StandsAs, EndsAs}
 use Rattle.paper_acceptance.proofs.Proper.{leads, Proper, root-route, block-route, payment-route, bic-or-not, to-not-provided}
 
@@ -62,21 +62,8 @@ module _ (profile : Profile) (proper : Proper profile) (Right : (holder : Option
     unfolding payments
     payments-as = payments-as-from 0 blocks-as
 
--- A child is at the end of a route of one row, and back.
-pub follow-one : (k : ℕ) (t u : Element) → child k t ≡ some u → follow (k ∷ []) t ≡ some u
-unfolding follow
-follow-one k t u e = go e
-  where
-    go : {o : Option Element} → o ≡ some u → _≡_ {A = Option Element} (elim o [ none ↦ none | some v ↦ some v ]) (some u)
-    go e = rw e
-
 child-of : (k : ℕ) (t : Element) → There (follow (k ∷ []) t) → There (child k t)
-unfolding follow
-child-of k t h = go (child k t) refl (h .is-it)
-  where
-    go : (o : Option Element) → child k t ≡ o → _≡_ {A = Option Element} (elim o [ none ↦ none | some u ↦ some u ]) (some (h .it)) → There (child k t)
-    go none e f = some-not-none (sym f)
-    go (some u) e f = record { it = u; is-it = e }
+child-of k t h = record { it = h .it; is-it = sym (follow-one k t) ∙ h .is-it }
 
 -- The leaves that the rules speak of are there in every message that keeps the rows.
 pub record LeavesThere (root : Element) : Type 0 where
@@ -102,22 +89,22 @@ leaves-there profile proper root kept =
     each-block : {P : Element → Type 0} → ((b : Element) → As profile proper AnyElement 2 10 b → P b) → All P (blocks root)
     each-block f = all-map f (blocks-as profile proper AnyElement root (none, kept))
 
--- No pair of an accepted payment's row is absent but the ultimate debtor's, the fourth.
-either-there : {o q : Option Element} → There o ⊎ There q → There (either-of o q)
+-- No pair of an accepted payment's row is absent but the fourth, the seventh and the eighth: the ultimate debtor's, the creditor's BIC, the text of Ustrd or Ref.
+pub either-there : {o q : Option Element} → There o ⊎ There q → There (either-of o q)
 unfolding either-of
 either-there {o = none} {q = q} h = ⊎-elim (λ t. some-not-none (sym (t .is-it))) (λ t. t) h
 either-there {o = some t} {q = q} h = record { it = t; is-it = refl }
 
 module _ (profile : Profile) (proper : Proper profile) (Right : (holder : Option Element) (parent : ℕ) → Row → Element → Type 0) where
   pairs-there : (p : Payment) → PaymentAs profile proper Right p → Used p → PairsThere p
-  unfolding PairsThere must-be-there pairs in-payment in-block inherited among-texts same
+  unfolding PairsThere must-be-there pairs first-pairs last-pairs in-payment in-block inherited among-texts same
   pairs-there p c u =
       each-more (λ _. stands profile proper Right 10 37 (38 ∷ 40 ∷ []) (p .own) (payment-route proper _ refl) (c .own-as))
       (each-more (λ _. stands profile proper Right 10 37 (45 ∷ 27 ∷ 28 ∷ []) (p .own) (payment-route proper _ refl) (c .own-as))
       (each-more (λ _. stands profile proper Right 10 37 (44 ∷ 25 ∷ []) (p .own) (payment-route proper _ refl) (c .own-as))
       (each-more (λ e. false-not-true e)
       (each-more (λ _. either-there (u .somewhere))
-      (each-more (λ _. stands profile proper Right 2 10 (26 ∷ 27 ∷ 28 ∷ []) (p .block) (block-route proper _ refl) (c .block-as)) each-none)))))
+      (each-more (λ _. stands profile proper Right 2 10 (26 ∷ 27 ∷ 28 ∷ []) (p .block) (block-route proper _ refl) (c .block-as)) (each-more (λ e. false-not-true e) (each-more (λ e. false-not-true e) each-none)))))))
 
 -- two statements of each of a list
 both-of : {A : Type 0} {P Q R : A → Type 0} {l : List A} → ((a : A) → P a → Q a → R a) → All P l → All Q l → All R l
@@ -137,21 +124,21 @@ never-absent =
 unfoldable pub FieldsThere : Payment → Type 0
 FieldsThere p = EachWith (λ must f. must ≡ true → There (f .element)) never-absent (fields p)
 
--- a route and one row more
-pub follow-joined : (route : List ℕ) (k : ℕ) (t u : Element) {o : Option Element} → follow route t ≡ some u → child k u ≡ o → follow (route ++ (k ∷ [])) t ≡ o
+-- a route, and from its end another
+pub follow-on : (route more : List ℕ) (t u : Element) {o : Option Element} → follow route t ≡ some u → follow more u ≡ o → follow (route ++ more) t ≡ o
 unfolding follow
-follow-joined [] k t u {o} e f = let g : t ≡ u = cc in last (child k t) (ap (child k) g ∙ f)
-  where
-    last : (p : Option Element) → p ≡ o → _≡_ {A = Option Element} (elim p [ none ↦ none | some v ↦ some v ]) o
-    last none q = q
-    last (some v) q = q
-follow-joined (j ∷ route) k t u {o} e f = go (child j t) e (λ w g. follow-joined route k w u g f)
+follow-on [] more t u e f = let g : t ≡ u = cc in ap (follow more) g ∙ f
+follow-on (j ∷ route) more t u {o} e f = go (child j t) e (λ w g. follow-on route more w u g f)
   where
     go : (p : Option Element) → _≡_ {A = Option Element} (elim p [ none ↦ none | some w ↦ follow route w ]) (some u)
-        → ((w : Element) → follow route w ≡ some u → follow (route ++ (k ∷ [])) w ≡ o)
-        → _≡_ {A = Option Element} (elim p [ none ↦ none | some w ↦ follow (route ++ (k ∷ [])) w ]) o
+        → ((w : Element) → follow route w ≡ some u → follow (route ++ more) w ≡ o)
+        → _≡_ {A = Option Element} (elim p [ none ↦ none | some w ↦ follow (route ++ more) w ]) o
     go none q below = some-not-none (sym q)
     go (some w) q below = below w q
+
+-- a route and one row more
+pub follow-joined : (route : List ℕ) (k : ℕ) (t u : Element) {o : Option Element} → follow route t ≡ some u → child k u ≡ o → follow (route ++ (k ∷ [])) t ≡ o
+follow-joined route k t u e f = follow-on route (k ∷ []) t u e (follow-one k u ∙ f)
 
 module _ (profile : Profile) (proper : Proper profile) (Right : (holder : Option Element) (parent : ℕ) → Row → Element → Type 0) where
   -- at the end of a route that leads to row k under a parent one of some rows must be there
@@ -165,7 +152,7 @@ module _ (profile : Profile) (proper : Proper profile) (Right : (holder : Option
       (u, n .0, n .1, n .2)
 
   -- of two rows the one or the other
-  either-row : (P : ℕ → Type 0) {Q : Type 0} {i j k : ℕ} → List·Memᴰ k (i ∷ j ∷ []) → P k → (P i → Q) → (P j → Q) → Q
+  pub either-row : (P : ℕ → Type 0) {Q : Type 0} {i j k : ℕ} → List·Memᴰ k (i ∷ j ∷ []) → P k → (P i → Q) → (P j → Q) → Q
   either-row P m h f g = ⊎-elim (λ e. f (subst P e h)) (λ n. g (subst P (List·Memᴰ·eq-of-singleton n) h)) (List·Memᴰ·cases-cons m)
 
   joined : (b : Element) (route : List ℕ) (u : There (follow route b)) (k : ℕ) → There (child k (u .it)) → There (follow (route ++ (k ∷ [])) b)
@@ -191,7 +178,7 @@ module _ (profile : Profile) (proper : Proper profile) (Right : (holder : Option
       not-provided : (u : There (follow (29 ∷ 30 ∷ []) b)) → There (child 32 (u .it)) → There (follow (29 ∷ 30 ∷ 32 ∷ 33 ∷ []) b)
       not-provided u v =
           let conforms = ends-as profile proper Right 2 10 (29 ∷ 30 ∷ []) b (u .it) agent-leads c (u .is-it) in
-          let d = follow-conforms profile Right (proper .apart) 29 30 (32 ∷ []) (u .it) (v .it) (to-not-provided proper) conforms (follow-one 32 (u .it) (v .it) (v .is-it)) in
+          let d = follow-conforms profile Right (proper .apart) 29 30 (32 ∷ []) (u .it) (v .it) (to-not-provided proper) conforms (follow-one 32 (u .it) ∙ v .is-it) in
           joined b (29 ∷ 30 ∷ 32 ∷ []) (joined b (29 ∷ 30 ∷ []) u 32 v) 33 (child-of 33 (v .it) (stands profile proper Right 30 32 (33 ∷ []) (v .it) (proper .not-provided) d))
 
   some-fields-there : (p : Payment) → PaymentAs profile proper Right p → FieldsThere p

@@ -23,6 +23,10 @@ use Rattle.paper_acceptance.proofs.Routes.{takes, must-take, lacks, ste
 abbrev pub leads : Profile → (parent k : ℕ) → List ℕ → Bool
 leads profile parent k route = steps profile parent k route && must-steps profile parent k route
 
+-- where the first of a route is there, so is its end
+abbrev pub leads-on : Profile → (parent k : ℕ) → List ℕ → Bool
+leads-on profile parent k route = elim route [ [] ↦ true | j ∷ js ↦ steps profile parent k (j ∷ []) && leads profile k j js ]
+
 -- each of some routes; one of them
 unfoldable pub each-route : (List ℕ → Bool) → List (List ℕ) → Bool
 each-route test [] = true
@@ -48,6 +52,13 @@ block-routes = (11 ∷ []) ∷ (14 ∷ []) ∷ (15 ∷ []) ∷ (22 ∷ []) ∷ (
 abbrev pub payment-routes : List (List ℕ)
 payment-routes = (38 ∷ 40 ∷ []) ∷ (41 ∷ 42 ∷ []) ∷ (44 ∷ 25 ∷ []) ∷ (45 ∷ 27 ∷ 28 ∷ []) ∷ []
 
+-- Routes that lead to an element where their first row is there: to the ultimate debtor's name, in a block and in a payment, and to the creditor's BIC.
+abbrev pub block-optional-routes : List (List ℕ)
+block-optional-routes = (34 ∷ 35 ∷ []) ∷ []
+
+abbrev pub payment-optional-routes : List (List ℕ)
+payment-optional-routes = (34 ∷ 35 ∷ []) ∷ (43 ∷ 30 ∷ 31 ∷ []) ∷ []
+
 -- Routes to leaves: of the fields and of the table's pairs, in a block and in a payment.
 abbrev pub block-leaf-routes : List (List ℕ)
 block-leaf-routes =
@@ -71,6 +82,12 @@ pub record Proper (profile : Profile) : Type 0 where
   pub payment-leads : each-route (leads profile 10 37) payment-routes ≡ true
   pub date-or-time : must-take (row-of profile 10 22) (23 ∷ 58 ∷ []) ≡ true
   pub not-provided : leads profile 30 32 (33 ∷ []) ≡ true
+  -- to what is there with the group that holds it
+  pub block-leads-on : each-route (leads-on profile 2 10) block-optional-routes ≡ true
+  pub payment-leads-on : each-route (leads-on profile 10 37) payment-optional-routes ≡ true
+  pub to-remittance : steps profile 10 37 (48 ∷ []) ≡ true
+  pub free-or-reference : must-take (row-of profile 37 48) (49 ∷ 50 ∷ []) ≡ true
+  pub to-reference : leads-on profile 37 48 (50 ∷ 51 ∷ 55 ∷ []) ≡ true
   -- to leaves
   pub block-leaves : each-route (leaf-route profile 2 10) block-leaf-routes ≡ true
   pub payment-leaves : each-route (leaf-route profile 10 37) payment-leaf-routes ≡ true
@@ -117,6 +134,11 @@ first-proper =
       payment-leads = refl;
       date-or-time = refl;
       not-provided = refl;
+      block-leads-on = refl;
+      payment-leads-on = refl;
+      to-remittance = refl;
+      free-or-reference = refl;
+      to-reference = refl;
       block-leaves = refl;
       payment-leaves = refl;
       header-count-is = refl;
@@ -142,6 +164,11 @@ instant-proper =
       payment-leads = refl;
       date-or-time = refl;
       not-provided = refl;
+      block-leads-on = refl;
+      payment-leads-on = refl;
+      to-remittance = refl;
+      free-or-reference = refl;
+      to-reference = refl;
       block-leaves = refl;
       payment-leaves = refl;
       header-count-is = refl;
@@ -169,6 +196,11 @@ module _ {profile : Profile} (proper : Proper profile) where
         payment-leads = proper .payment-leads;
         date-or-time = proper .date-or-time;
         not-provided = proper .not-provided;
+        block-leads-on = proper .block-leads-on;
+        payment-leads-on = proper .payment-leads-on;
+        to-remittance = proper .to-remittance;
+        free-or-reference = proper .free-or-reference;
+        to-reference = proper .to-reference;
         block-leaves = proper .block-leaves;
         payment-leaves = proper .payment-leaves;
         header-count-is = proper .header-count-is;

@@ -5,7 +5,7 @@ use native.Mathlib.Omega.{arith}
 use mathlib.Core.List.{List, [], _∷_}
 use mathlib.Core.Bool.{true, not}
 use mathlib.Core.Option.{Option, none, some}
-use mathlib.Core.Path.{_≡_, refl, ap, subst}
+use mathlib.Core.Path.{_≡_, refl, ap, subst, _∙_}
 use borrow.Author.Tests.{leb-true}
 use lib.Dec.{leb}
 use Rattle.paper.specs.Bytes.{bytes, same}
@@ -15,10 +15,10 @@ use Rattle.paper.specs.Values.{among, lies-from, money, cents, amount, right-fo
 use Rattle.paper.specs.Payments.{Payment, child, follow, blocks, of-header, payments, text-of, instructed-amount, amount-of}
 use Rattle.paper.specs.Refusals.{values-refusal, among-texts}
 use Rattle.paper.specs.Accepted.{All, RightText, RightLeaf, RightElement, ValuesRight}
-use Rattle.paper.proofs.Laws.{both-left, both-right, all-map, amount-is, no-amount}
+use Rattle.paper.proofs.Laws.{both-left, both-right, all-map, amount-is, no-amount, follow-one}
 use Rattle.paper_acceptance.proofs.Routes.{holds-text, right-conforms, leaf-conforms, EndsAs}
 use Rattle.paper_acceptance.proofs.Proper.{leads, Proper, payment-route}
-use Rattle.paper_acceptance.proofs.Present.{As, follow-one, ends-as, PaymentAs, blocks-as, payments-as}
+use Rattle.paper_acceptance.proofs.Present.{As, ends-as, PaymentAs, blocks-as, payments-as}
 use Rattle.paper_acceptance.proofs.Stages.{values-right}
 
 -- a value that is allowed is right for its row
@@ -78,7 +78,7 @@ module _ (profile : Profile) (proper : Proper profile) where
       → child k b ≡ some t → RightText 10 (row-of profile 10 k) (head-of t) (text-of t)
   unfolding EndsAs
   block-leaf-right b c k longest t taken holds e =
-      leaf-text t 10 (row-of profile 10 k) longest holds (ends-as profile proper Right 2 10 (k ∷ []) b t taken c (follow-one k b t e))
+      leaf-text t 10 (row-of profile 10 k) longest holds (ends-as profile proper Right 2 10 (k ∷ []) b t taken c (follow-one k b ∙ e))
 
   pub amount-right : (t : Element) → RightAs 10 37 t → (longest : ℕ) (u : Element) → row-of profile 41 42 .holds ≡ text longest → follow (41 ∷ 42 ∷ []) t ≡ some u
       → RightText 41 (row-of profile 41 42) (head-of u) (text-of u)

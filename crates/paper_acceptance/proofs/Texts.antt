@@ -10,7 +10,7 @@ use Rattle.paper.specs.Bytes.{if_then_else_, same}
 use Rattle.paper.specs.Form.{Head, Element, Elements, holding-text, IsMessage}
 use Rattle.paper.specs.Rows.{name, head-of}
 use Rattle.paper.specs.Payments.{Payment, listed, children, all-named, all-of, child, follow, blocks, payments, payments-of, payments-from, in-payment, in-block, either-of, inherited}
-use Rattle.paper.specs.Table.{part-of, pairs}
+use Rattle.paper.specs.Table.{part-of, pairs, first-pairs, last-pairs}
 use Rattle.paper.specs.Fields.{plain, or-means, amount-field, remittance, fields}
 use Rattle.paper.specs.Accepted.{All, all-none, all-more}
 use Rattle.paper.proofs.Laws.{all-joined}
@@ -117,9 +117,16 @@ module _ {s : List ℕ} (p : Payment) (i : PaymentInPlace s p) where
 
   -- each pair of the table, and each field
   pub pairs-stand : All (Stands s) (pairs p)
-  unfolding pairs
+  unfolding pairs first-pairs last-pairs
   pairs-stand =
-      all-more (own-stands _) (all-more (own-stands _) (all-more (own-stands _) (all-more (inherited-stands _) (all-more (inherited-stands _) (all-more (block-stands _) all-none)))))
+      all-more (own-stands _)
+      (all-more (own-stands _)
+      (all-more (own-stands _)
+      (all-more (inherited-stands _)
+      (all-more (inherited-stands _)
+      (all-more (block-stands _)
+      (all-more (own-stands _)
+      (all-more (either-stands (own-stands _) (own-stands _)) all-none)))))))
 
   pub fields-stand : All (λ f. Stands s (f .element)) (fields p)
   unfolding fields plain or-means amount-field remittance

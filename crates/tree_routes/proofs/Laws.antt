@@ -13,7 +13,7 @@ use Rattle.paper.specs.Bytes.{same, every}
 use Rattle.paper.specs.Form.{Element, Elements, []ᵉ, _∷ᵉ_}
 use Rattle.paper.specs.Rows.{head-of, name}
 use Rattle.paper.specs.Payments.{listed, children, all-named, all-of, child, follow}
-use Rattle.paper.proofs.Laws.{both-left, both-right}
+use Rattle.paper.proofs.Laws.{both-left, both-right, follow-one}
 use Rattle.form_names.specs.Names.{name-number, is-sought}
 use Rattle.tree.specs.Laid.{Laid, LaidAll, laid-text, laid-elements, laid-none, laid-more}
 use Rattle.tree.proofs.Laws.{Cell, named, next-cell, entry-of}
@@ -172,14 +172,6 @@ pub onward-here : (o : Option Element) → onward [] o ≡ o
 unfolding onward follow
 onward-here none = refl
 onward-here (some t) = refl
-
-pub follow-one : (k : ℕ) (t : Element) → follow (k ∷ []) t ≡ child k t
-unfolding follow
-follow-one k t = go (child k t)
-  where
-    go : (o : Option Element) → _≡_ {A = Option Element} (elim o [ none ↦ none | some u ↦ some u ]) o
-    go none = refl
-    go (some u) = refl
 
 pub follow-step : (k : ℕ) (ks : List ℕ) (t : Element) → follow (k ∷ ks) t ≡ onward ks (child k t)
 unfolding follow onward

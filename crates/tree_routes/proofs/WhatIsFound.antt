@@ -11,7 +11,8 @@ use Rattle.tree.specs.Laid.{LaidAt}
 use Rattle.tree_routes.specs.declared.Found.{Found}
 use Rattle.tree_routes.specs.declared.Found.the-variants.{At, Nothing}
 use Rattle.tree_routes.specs.Finds.{Finds, found-at, found-nothing, onward}
-use Rattle.tree_routes.proofs.Laws.{follow-one, onward-none, onward-some}
+use Rattle.paper.proofs.Laws.{follow-one}
+use Rattle.tree_routes.proofs.Laws.{onward-none, onward-some}
 
 pub found-none : {s tree : List ℕ} {o : Option Element} {f : Found} → Finds s tree o f → f ≡ Nothing → o ≡ none
 found-none found-nothing e = refl
