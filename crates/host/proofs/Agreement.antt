@@ -1,18 +1,23 @@
 -- The promises of the two functions for the payment host determine their answers, and follow from the reader's and the regrouping's.
 use Prim.Native.Nat.{ℕ, zero, suc, _+_, _*_, _/_, _%_, _≤_, _<_}
 use native.Mathlib.Omega.{arith}
-use mathlib.Core.List.{List, [], _∷_, _++_}
+use mathlib.Core.List.{List, [], _∷_, _++_, List·Memᴰ·head, List·Memᴰ·eq-of-singleton}
 use mathlib.Core.Path.{_≡_, refl, sym, ap, _∙_, subst}
 use mathlib.Core.Logic.{_↔_}
+use mathlib.Core.Bool.{Bool, true, false}
+use borrow.Author.Tests.{ltb-true, ltb-false}
+use lib.Dec.{ltb}
 use lib.ListN.{length, drop}
 use Rattle.paper.specs.Bytes.{each}
-use Rattle.paper.specs.Payments.{payments}
+use Rattle.paper.specs.Form.{Element}
+use Rattle.paper.specs.Payments.{Payment, payments}
 use Rattle.paper.specs.Refusals.{Outcome, refused-as, accepted-with, MessageAnswer, refused, accepted, answer-to, outcome, verdict}
 use Rattle.paper.specs.Sizes.{least-table}
 use Rattle.paper.specs.Accepted.{All, Accepted}
-use Rattle.paper.specs.Regrouping.{RegroupingAnswer, regrouping, Regroups}
-use Rattle.paper.specs.Table.{over, written, table-after}
+use Rattle.paper.specs.Regrouping.{RegroupingAnswer, regrouping, Regroups, At}
+use Rattle.paper.specs.Table.{payment-numbers, numbers-of, over, written, table-after}
 use Rattle.paper.specs.Host.{profile-numbered, four-bytes, numbers-held, bytes-after}
+use Rattle.paper.specs.Order.{Stage, for-table, order, numbers, StageHolds, FirstNot, this-one, a-later-one}
 use Rattle.paper_acceptance.proofs.Proper.{numbered-proper}
 use Rattle.paper_acceptance.proofs.Outcome.{accepted-with-table, accepted-alone}
 use Rattle.paper_acceptance.proofs.Accepts.{accepts-with-table}
@@ -23,7 +28,7 @@ use Rattle.verdict_answers.specs.Numbers.{as-answer, as-regrouping-answer}
 use Rattle.verdict_answers.specs.declared.OfMessage.{OfMessage}
 use Rattle.verdict_answers.specs.declared.OfRegrouping.{OfRegrouping}
 use Rattle.verdict_answers.proofs.Agreement.{one-message, one-six}
-use Rattle.verdict_table.proofs.Filling.{all-numbers-length}
+use Rattle.verdict_table.proofs.Numbers.{all-numbers-length, payment-begins}
 use Rattle.host.specs.Promises.{HostVerdictPromise, HostRegroupPromise}
 use Rattle.host.proofs.Laws.{four-length}
 
@@ -123,6 +128,11 @@ pub left-stays : {profile archived : ℕ} {message before after : List ℕ} {r :
 left-stays {profile} {archived} {message} {before} a =
     ap left-over (a .table-is) ∙ left-of-outcome (outcome (profile-numbered profile archived) (numbers-held before) message) before (room-for-all profile archived message before (outcome (profile-numbered profile archived) (numbers-held before) message) refl)
 
+-- the first stage that does not hold does not hold
+not-first : {H : Stage → Type 0} {l : List Stage} {stage : Stage} → FirstNot H l stage → H stage → ⊥
+not-first (this-one n) h = n h
+not-first (a-later-one g f) h = not-first f h
+
 -- The six numbers. Of a message: number 0 exactly when the table is long enough and the rules hold; counts of zero on every refusal; no element and no offset where it is
 -- accepted.
 module _ {profile archived : ℕ} {message before after : List ℕ} {r : OfMessage} (a : HostVerdictPromise profile archived message before r after) where
@@ -148,6 +158,31 @@ module _ {profile archived : ℕ} {message before after : List ℕ} {r : OfMessa
       let t = accepts-with-table (profile-numbered profile archived) (numbered-proper profile archived) (numbers-held before) message (h .0) .1 (h .1) in
       let e : as-answer r ≡ answer-to (accepted-with (t .0)) = a .answer-is ∙ ap answer-to (t .1) in
       (ap (λ (m : MessageAnswer). m .element) e, ap (λ (m : MessageAnswer). m .offset) e)
+
+  -- 14 exactly where the table has fewer bytes than make the numbers of the least table, whatever the message.
+  pub fourteen-exactly : (r .number ≡ 14) ↔ (length before < 4 * least-table)
+  unfolding as-answer numbers-held numbers order StageHolds
+  fourteen-exactly =
+      let n : r .number ≡ verdict (profile-numbered profile archived) (numbers-held before) message .number = ap (λ (m : MessageAnswer). m .number) (a .answer-is) in
+      let z = the-order.refused-by (profile-numbered profile archived) (numbered-proper profile archived) (numbers-held before) message for-table in (
+        (λ e. short (ltb (length before) (4 * least-table)) refl (z .0 (List·Memᴰ·head (sym n ∙ e)))),
+        (λ l. n ∙ List·Memᴰ·eq-of-singleton (z .1 (this-one (λ h. omega (arith, h, l))))),
+      )
+    where
+      short : (b : Bool) → ltb (length before) (4 * least-table) ≡ b → FirstNot (StageHolds (profile-numbered profile archived) (numbers-held before) message) order for-table
+          → length before < 4 * least-table
+      short true e f = ltb-true (length before) (4 * least-table) e
+      short false e f = absurd (not-first f (omega (arith, ltb-false (length before) (4 * least-table) e)))
+
+  -- On acceptance payment k's numbers, as the bytes make them, begin at number 20k.
+  pub accepted-begins : r .number ≡ 0 → (root : Element) × (outcome (profile-numbered profile archived) (numbers-held before) message ≡ accepted-with root)
+      × ((k : ℕ) (one : Payment) → At (payments root) k one → payment-numbers k (numbers-32 after) ≡ numbers-of one)
+  accepted-begins z =
+      let h = zero-exactly .0 z in
+      let t = accepts-with-table (profile-numbered profile archived) (numbered-proper profile archived) (numbers-held before) message (h .0) .1 (h .1) in
+      let filled : numbers-32 after ≡ table-after (accepted-with (t .0)) (numbers-32 before) =
+      ap numbers-32 (a .table-is ∙ ap (λ (o : Outcome). bytes-after o before) (t .1)) ∙ as-the-reader (accepted-with (t .0)) before in
+      (t .0, t .1, λ k one i. ap (payment-numbers k) filled ∙ payment-begins (t .0) (numbers-32 before) i)
 
 -- Of a regrouping: number 0 exactly when the second message regroups the first by the list; k, field, element and offset only where an answer has them.
 module _ (profile archived : ℕ) (first second list : List ℕ) (r : OfRegrouping) (a : HostRegroupPromise profile archived first second list r) where

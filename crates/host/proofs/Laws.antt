@@ -7,6 +7,7 @@ use mathlib.Core.Path.{_≡_, refl, sym, ap, _∙_, subst}
 use borrow.Author.Tests.{lt-ltb, eqb-false}
 use lib.ListN.{length, getD, set, take, drop, length-append, length-set}
 use lib.Seq.{length-take-le, take-at, take-suc, drop-append-add, drop-drop}
+use Rattle.paper.specs.Sizes.{numbers-per-payment, least-table}
 use Rattle.paper.specs.Bytes.{each}
 use Rattle.paper.specs.Rows.{Profile}
 use Rattle.paper.specs.Payments.{payments}
@@ -22,7 +23,7 @@ use Rattle.paper.specs.declared.Verdict.the-variants.{Accepted, Refused}
 use Rattle.paper.proofs.Laws.{each-more, each-length}
 use Rattle.verdict_answers.specs.Numbers.{as-answer}
 use Rattle.verdict_answers.specs.declared.OfMessage.{OfMessage}
-use Rattle.verdict_table.proofs.Filling.{all-numbers-length}
+use Rattle.verdict_table.proofs.Numbers.{all-numbers-length}
 use Rattle.paper_acceptance.proofs.Proper.{numbered-proper}
 use Rattle.verdict_reader.specs.Promises.{VerdictPromise}
 use Rattle.verdict_reader.proofs.Verdicts.{long-enough}
@@ -89,7 +90,7 @@ pub all-written : (numbers old : List ℕ) (i many : ℕ) {table : List ℕ} →
 all-written numbers old i many {table} e w = subst (λ (n : ℕ). Written numbers old n table) e w
 
 -- the table's bytes and its numbers
-held-long : (table : List ℕ) → 4096 ≤ length table → 1024 ≤ numbers-held table
+held-long : (table : List ℕ) → 4 * least-table ≤ length table → least-table ≤ numbers-held table
 unfolding numbers-held
 held-long table h = omega (arith, h)
 
@@ -98,14 +99,14 @@ told : {profile archived : ℕ} (s before after : List ℕ) (v : Verdict) {r : O
 unfolding verdict
 told s before after v e a t = record { answer-is = e ∙ a; table-is = t }
 
-pub too-short : (profile archived : ℕ) (s before : List ℕ) {r : OfMessage} → length before < 4096 → as-answer r ≡ verdict-says (Refused TableTooShort) → HostVerdictPromise profile archived s before r before
+pub too-short : (profile archived : ℕ) (s before : List ℕ) {r : OfMessage} → length before < 4 * least-table → as-answer r ≡ verdict-says (Refused TableTooShort) → HostVerdictPromise profile archived s before r before
 unfolding outcome table-refusal refuse unless-refused answer-to verdict-says refusal-of numbered bytes-after over written each numbers-held
 too-short profile archived s before h e =
-    let l : length before / 4 < 1024 = omega (arith, h) in
-    told {profile = profile} {archived = archived} s before before (Refused TableTooShort) e (rw (lt-ltb (length before / 4) 1024 l)) (rw (lt-ltb (length before / 4) 1024 l))
+    let l : length before / 4 < least-table = omega (arith, h) in
+    told {profile = profile} {archived = archived} s before before (Refused TableTooShort) e (rw (lt-ltb (length before / 4) least-table l)) (rw (lt-ltb (length before / 4) least-table l))
 
--- what the reader answered with a table of its own that has room for 1,024 numbers
-module _ (profile archived : ℕ) (s before : List ℕ) {own filled : List ℕ} {v : Verdict} (h : 4096 ≤ length before) (long : length own ≡ 1024)
+-- what the reader answered with the least table of its own
+module _ (profile archived : ℕ) (s before : List ℕ) {own filled : List ℕ} {v : Verdict} (h : 4 * least-table ≤ length before) (long : length own ≡ least-table)
     (a : VerdictPromise (profile-numbered profile archived) s own v filled) where
   as-own : outcome (profile-numbered profile archived) (numbers-held before) s ≡ outcome (profile-numbered profile archived) (length own) s
   as-own = long-enough (profile-numbered profile archived) s (numbers-held before) (held-long before h) ∙ sym (long-enough (profile-numbered profile archived) s (length own) (omega (arith, long)))
@@ -125,23 +126,24 @@ module _ (profile archived : ℕ) (s before : List ℕ) {own filled : List ℕ} 
     numbered-by : Filled (profile-numbered profile archived) s own filled b p c
     numbered-by = accepted-fills (numbered-proper profile archived) (subst (λ (w : Verdict). VerdictPromise (profile-numbered profile archived) s own w filled) e a)
 
-    pub room : length filled ≡ 1024 → 16 * p ≤ 1024
+    pub room : length filled ≡ least-table → numbers-per-payment * p ≤ least-table
     unfolding over table-after written
     room l =
         let n = numbered-by in
         let ns = each numbers-of (payments (n .root)) in
         omega (arith, l, ap length (n .table-is), length-append ns (drop (length ns) own), all-numbers-length (payments (n .root)), n .payments-are)
 
-    pub accepted-bytes : {r : OfMessage} {after : List ℕ} → length filled ≡ 1024 → as-answer r ≡ verdict-says (Accepted b p c)
-        → (16 * p ≤ length filled → 4 * (16 * p) ≤ length before → after ≡ each four-bytes (take (16 * p) filled) ++ drop (4 * (16 * p)) before) → HostVerdictPromise profile archived s before r after
+    pub accepted-bytes : {r : OfMessage} {after : List ℕ} → length filled ≡ least-table → as-answer r ≡ verdict-says (Accepted b p c)
+        → (numbers-per-payment * p ≤ length filled → 4 * (numbers-per-payment * p) ≤ length before
+        → after ≡ each four-bytes (take (numbers-per-payment * p) filled) ++ drop (4 * (numbers-per-payment * p)) before) → HostVerdictPromise profile archived s before r after
     unfolding verdict bytes-after table-after over written
     accepted-bytes {r} {after} l q w =
         let n = numbered-by in
         let ns = each numbers-of (payments (n .root)) in
         let few = room l in
-        let many : length ns ≡ 16 * p = all-numbers-length (payments (n .root)) ∙ ap (λ (m : ℕ). 16 * m) (sym (n .payments-are)) in
-        let x : take (16 * p) filled ≡ ns = ap (take (16 * p)) (n .table-is) ∙ take-at ns (drop (length ns) own) (16 * p) many in
-        let y : 4 * (16 * p) ≡ length (each four-bytes ns) = ap (λ (m : ℕ). 4 * m) (sym many) ∙ sym (four-length ns) in
+        let many : length ns ≡ numbers-per-payment * p = all-numbers-length (payments (n .root)) ∙ ap (λ (m : ℕ). numbers-per-payment * m) (sym (n .payments-are)) in
+        let x : take (numbers-per-payment * p) filled ≡ ns = ap (take (numbers-per-payment * p)) (n .table-is) ∙ take-at ns (drop (length ns) own) (numbers-per-payment * p) many in
+        let y : 4 * (numbers-per-payment * p) ≡ length (each four-bytes ns) = ap (λ (m : ℕ). 4 * m) (sym many) ∙ sym (four-length ns) in
         let o : outcome (profile-numbered profile archived) (numbers-held before) s ≡ accepted-with (n .root) = as-own ∙ n .outcome-is in
         told s before after (Accepted b p c) q (sym (ap verdict-says e) ∙ a .answer-is ∙ ap answer-to (sym as-own))
         (w (omega (arith, few, l)) (omega (arith, few, h)) ∙ rw (o, x) (ap (λ (m : ℕ). each four-bytes ns ++ drop m before) y))

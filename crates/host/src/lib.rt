@@ -79,7 +79,7 @@ pub extern "C" fn glowenzo_verdict(
             payments,
             cents,
         } => {
-            write(&numbers, 16 * payments, table);
+            write(&numbers, paper::NUMBERS_PER_PAYMENT * payments, table);
             verdict_answers::of_message(Verdict::Accepted {
                 blocks,
                 payments,

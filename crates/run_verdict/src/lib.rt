@@ -9,13 +9,13 @@ fn wide(x: u32) -> u64 {
 
 // Number k of payment i, 0 where the table has none.
 fn number(table: &[u32], i: usize, k: usize) -> u64 {
-    if 64 <= i {
+    if paper::MOST_PAYMENTS <= i {
         return 0;
     }
-    if 16 <= k {
+    if paper::NUMBERS_PER_PAYMENT <= k {
         return 0;
     }
-    let at = 16 * i + k;
+    let at = paper::NUMBERS_PER_PAYMENT * i + k;
     if table.len() <= at {
         return 0;
     }

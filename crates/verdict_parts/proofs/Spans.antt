@@ -2,7 +2,6 @@
 use Prim.Native.Nat.{ℕ, zero, suc, _+_, _-_, _≤_, _<_}
 use native.Mathlib.Omega.{arith}
 use mathlib.Core.List.{List, [], _∷_}
-use mathlib.Core.Option.{Option}
 use mathlib.Core.Path.{_≡_, refl, sym, _∙_, ap, subst}
 use denote.Ref.{RefT, now}
 use lib.ListN.{length, take, drop}
@@ -10,8 +9,7 @@ use Rattle.paper.specs.Form.{Element}
 use Rattle.paper.specs.Payments.{Payment, payments}
 use Rattle.paper.specs.Table.{Part, part-of}
 use Rattle.paper.specs.Fields.{field-element, field-of}
-use Rattle.tree_routes.specs.declared.Found.{Found}
-use Rattle.tree_routes.specs.Finds.{Finds, ByName, ChildrenOf}
+use Rattle.tree_routes.specs.Finds.{ByName, ChildrenOf}
 use Rattle.rule_limits.specs.declared.PaymentAt.{PaymentAt}
 use Rattle.rule_limits.specs.Ordered.{IsPayment, PaymentsAt, more-payments, payment-in, Ordered}
 use Rattle.rule_limits.proofs.First.{payment-there}
@@ -56,16 +54,15 @@ span-part {message} {handed} {r} {part} is h =
       at-its-place = b .at-its-place ∙ rw (is .start-is);
     }
 
-pub found-part : (k field : ℕ) {message handed : RefT (List ℕ)} {tree order own block : List ℕ} {root : Element} {there : PaymentAt} {found : Found} {r : Span}
+pub found-part : (k field : ℕ) {message handed : RefT (List ℕ)} {tree order own block : List ℕ} {root : Element} {there : PaymentAt} {r : Span}
     → Ordered (now message) tree order root → k < length (payments root) → there ≡ payment-in order k
     → ChildrenOf tree (there .own) own → ChildrenOf tree (there .block) block
-    → ((s : List ℕ) (p : Payment) → ByName s tree (p .own) own → ByName s tree (p .block) block → Finds s tree (field-element field p) found)
-    → ((s : List ℕ) (o : Option Element) → Finds s tree o found → SpanIs s (part-of o) r)
+    → ((s : List ℕ) (p : Payment) → ByName s tree (p .own) own → ByName s tree (p .block) block → SpanIs s (part-of (field-element field p)) r)
     → (r .start + r .size ≤ length (now message) → HandsBack message handed (record { start = r .start; size = r .size }))
     → HandsBack message handed (field-of (payments root) k field)
-found-part k field {message} {handed} o l e own block finds span part =
+found-part k field {message} {handed} o l e own block span part =
     let q = kth k o l in
     let p = q .p in
     let t = payment-there e (q .stands) in
-    let found = finds (now message) p (own (now message) (p .own) (t .own-is)) (block (now message) (p .block) (t .block-is)) in
-    subst (λ (x : Part). HandsBack message handed x) (sym (q .fields field)) (span-part (span (now message) (field-element field p) found) part)
+    let is = span (now message) p (own (now message) (p .own) (t .own-is)) (block (now message) (p .block) (t .block-is)) in
+    subst (λ (x : Part). HandsBack message handed x) (sym (q .fields field)) (span-part is part)

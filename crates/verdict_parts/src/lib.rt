@@ -41,7 +41,6 @@ pub fn field_in<'a>(
     let own = tree_routes::by_name(tree, payment.own);
     let block = tree_routes::by_name(tree, payment.block);
     let routes = tree_fields::routes();
-    let found = tree_fields::field_at(tree, &routes, &own, &block, field);
-    let span = verdict_table::span_of(tree, found);
+    let span = verdict_table::field_span(tree, &routes, &own, &block, field);
     part(message, span.start, span.size)
 }

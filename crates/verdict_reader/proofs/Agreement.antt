@@ -1,27 +1,30 @@
 -- The promises of the reader determine its answers; and demands 1 and 2 as the promise of `verdict` has them, in whichever profile is named (crates/paper_acceptance/proofs/Proper.antt,
 -- `named-proper`).
-use Prim.Native.Nat.{ℕ, _≤_}
+use Prim.Native.Nat.{ℕ, _*_, _≤_}
 use mathlib.Core.List.{List, List·Memᴰ}
 use mathlib.Core.Path.{_≡_, refl, sym, ap, _∙_, subst}
 use mathlib.Core.Logic.{_↔_}
-use lib.ListN.{length}
+use lib.ListN.{length, drop}
 use borrow.Author.Tests.{eqb-false}
 use denote.Ref.{RefT, now}
-use Rattle.paper.specs.Sizes.{least-table, largest-message}
+use Rattle.paper.specs.Sizes.{numbers-per-payment, least-table, largest-message}
 use Rattle.paper.specs.Form.{Element, FirstImpossible}
 use Rattle.paper.specs.Rows.{Profile}
-use Rattle.paper.specs.Payments.{blocks, payments, total}
+use Rattle.paper.specs.Payments.{Payment, blocks, payments, total}
 use Rattle.paper.specs.Refusals.{Outcome, refused-as, accepted-with, MessageAnswer, accepted, refused, answer-to, outcome, verdict}
 use Rattle.paper.specs.Accepted.{All, Accepted}
 use Rattle.paper.specs.Order.{Stage, order, numbers, StageHolds, FirstNot}
-use Rattle.paper.specs.Table.{over, written, table-after, PairsThere}
+use Rattle.paper.specs.Table.{over, written, numbers-of, payment-numbers, table-after, PairsThere}
+use Rattle.paper.specs.Regrouping.{At}
 use Rattle.paper.specs.Answers.{verdict-says, refusal-of, numbered}
 use Rattle.paper.specs.declared.Fault.{Fault}
 use Rattle.paper.specs.declared.Fault.the-variants.{NotOfTheForm}
 use Rattle.paper.specs.declared.Verdict.{Verdict}
 use Rattle.paper.specs.declared.Verdict.the-variants as the
+use Rattle.verdict_table.proofs.Numbers.{payment-begins, later-stay}
 use Rattle.paper_acceptance.proofs.Proper.{Proper}
 use Rattle.paper_acceptance.proofs.Present.{no-other-absent, FieldsThere, fields-there}
+use Rattle.paper_acceptance.proofs.Absent.{PairsExactly, accepted-pairs}
 use Rattle.paper_acceptance.proofs.Outcome.{accepted-alone, accepted-with-table}
 use Rattle.paper_acceptance.proofs.Accepts.{accepts-with-table}
 use Rattle.paper_acceptance.proofs.Order as the-order
@@ -87,8 +90,8 @@ refused-keeps {profile} {s} {before} {after} {f} a = go (outcome profile (length
     go (refused-as r) e t = t
     go (accepted-with root) e t = absurd (eqb-false (refusal-of f .number) 0 (no-zero f) (ap (λ (m : MessageAnswer). m .number) e))
 
--- On acceptance the answer holds blocks, payments and total cents, and the table each payment, of which no pair but the ultimate debtor's is absent; nor is one of the fields
--- that must be there.
+-- On acceptance the answer holds blocks, payments and total cents, and the table each payment: payment k from number 20k on, and behind the last what was there. Of a
+-- payment's pairs none is absent but those that may be; each is there exactly where the outermost element of its route is. Nor is one of the fields absent that must be there.
 pub record Filled (profile : Profile) (s before after : List ℕ) (b p c : ℕ) : Type 0 where
   pub root : Element
   pub outcome-is : outcome profile (length before) s ≡ accepted-with root
@@ -96,7 +99,10 @@ pub record Filled (profile : Profile) (s before after : List ℕ) (b p c : ℕ) 
   pub payments-are : p ≡ length (payments root)
   pub cents-are : c ≡ total root
   pub table-is : after ≡ table-after (accepted-with root) before
+  pub begins : (k : ℕ) {one : Payment} → At (payments root) k one → payment-numbers k after ≡ numbers-of one
+  pub later : drop (numbers-per-payment * length (payments root)) after ≡ drop (numbers-per-payment * length (payments root)) before
   pub pairs : All PairsThere (payments root)
+  pub pairs-exactly : All PairsExactly (payments root)
   pub fields : All FieldsThere (payments root)
 
 pub accepted-fills : {profile : Profile} → Proper profile → {s before after : List ℕ} {b p c : ℕ} → VerdictPromise profile s before (the.Accepted b p c) after → Filled profile s before after b p c
@@ -106,13 +112,17 @@ accepted-fills {profile} proper {s} {before} {after} {b} {p} {c} a =
     let r = accepts-with-table profile proper (length before) s (h .0) .1 (h .1) in
     let t = accepted-with-table profile proper (length before) s (r .0) .0 (r .1) in
     let e : accepted b p c ≡ answer-to (accepted-with (r .0)) = a .answer-is ∙ ap answer-to (r .1) in
+    let filled : after ≡ table-after (accepted-with (r .0)) before = a .table-is ∙ ap (λ (o : Outcome). table-after o before) (r .1) in
     record {
       root = r .0;
       outcome-is = r .1;
       blocks-are = ap (λ (m : MessageAnswer). m .blocks) e;
       payments-are = ap (λ (m : MessageAnswer). m .payments) e;
       cents-are = ap (λ (m : MessageAnswer). m .cents) e;
-      table-is = a .table-is ∙ ap (λ (o : Outcome). table-after o before) (r .1);
+      table-is = filled;
+      begins = λ k i. ap (payment-numbers k) filled ∙ payment-begins (r .0) before i;
+      later = ap (drop (numbers-per-payment * length (payments (r .0)))) filled ∙ later-stay (r .0) before;
       pairs = no-other-absent profile proper (r .0) (accepted-alone profile proper s (r .0) .0 (t .1) .2);
+      pairs-exactly = accepted-pairs profile proper s (t .1);
       fields = fields-there profile proper (r .0) (accepted-alone profile proper s (r .0) .0 (t .1) .2 .but-counts .rows);
     }

@@ -5,6 +5,7 @@ use mathlib.Core.List.{List, _++_}
 use mathlib.Core.Path.{_≡_, _∙_, ap, subst, sym}
 use borrow.Author.Tests.{lt-ltb, le-ltb}
 use lib.ListN.{length, drop}
+use Rattle.paper.specs.Sizes.{numbers-per-payment, least-table}
 use Rattle.paper.specs.Form.{Element}
 use Rattle.paper.specs.Rows.{Profile}
 use Rattle.paper.specs.Payments.{payments}
@@ -19,19 +20,19 @@ use Rattle.paper.specs.declared.Verdict.{Verdict}
 use Rattle.paper.specs.declared.Verdict.the-variants.{Accepted, Refused}
 use Rattle.rule_limits.specs.Ordered.{Ordered}
 use Rattle.verdict_table.specs.Rows.{Fitting}
-use Rattle.verdict_table.proofs.Filling.{all-numbers-length}
+use Rattle.verdict_table.proofs.Numbers.{all-numbers-length}
 use Rattle.verdict_reader.specs.Promises.{VerdictPromise}
 use Rattle.verdict_stages.specs.Decided.{Placed, Decided, decided-refused, decided-accepted}
 
-pub too-short : (profile : Profile) (s before : List ℕ) → length before < 1024 → VerdictPromise profile s before (Refused TableTooShort) before
+pub too-short : (profile : Profile) (s before : List ℕ) → length before < least-table → VerdictPromise profile s before (Refused TableTooShort) before
 unfolding verdict outcome table-refusal refuse unless-refused answer-to verdict-says refusal-of numbered table-after over written
 too-short profile s before h =
-    record { answer-is = rw (lt-ltb (length before) 1024 h); table-is = rw (lt-ltb (length before) 1024 h) }
+    record { answer-is = rw (lt-ltb (length before) least-table h); table-is = rw (lt-ltb (length before) least-table h) }
 
 -- with a table that is long enough the outcome is that of the message alone
-pub long-enough : (profile : Profile) (s : List ℕ) (n : ℕ) → 1024 ≤ n → outcome profile n s ≡ outcome-alone profile s
+pub long-enough : (profile : Profile) (s : List ℕ) (n : ℕ) → least-table ≤ n → outcome profile n s ≡ outcome-alone profile s
 unfolding outcome table-refusal unless-refused
-long-enough profile s n h = rw (le-ltb n 1024 h)
+long-enough profile s n h = rw (le-ltb n least-table h)
 
 told : {profile : Profile} (s before after : List ℕ) (v : Verdict) → verdict-says v ≡ answer-to (outcome profile (length before) s) → after ≡ table-after (outcome profile (length before) s) before → VerdictPromise profile s before v after
 unfolding verdict
@@ -41,7 +42,7 @@ moved : {s tree order : List ℕ} {root : Element} {x y z b p c : ℕ} → x ≡
 moved {s} {tree} {order} {root} {x} {y} {z} {b} {p} {c} f g k q =
     subst (λ (n : ℕ). Placed s tree order root n p c) f (subst (λ (n : ℕ). Placed s tree order root x n c) g (subst (λ (n : ℕ). Placed s tree order root x y n) k q))
 
-module _ {profile : Profile} {s tree order before : List ℕ} {v : Verdict} (h : 1024 ≤ length before) (d : Decided profile s tree order v) where
+module _ {profile : Profile} {s tree order before : List ℕ} {v : Verdict} (h : least-table ≤ length before) (d : Decided profile s tree order v) where
   pub refused-promise : {f : Fault} → v ≡ Refused f → VerdictPromise profile s before (Refused f) before
   unfolding answer-to verdict-says table-after over written
   refused-promise {f} e = go d e
@@ -54,8 +55,8 @@ module _ {profile : Profile} {s tree order before : List ℕ} {v : Verdict} (h :
       go (decided-accepted l o t q) e = let z : _≡_ {A = ℕ} 0 1 = cc in absurd (omega (arith, z))
 
   pub accepted-promise : {b p c : ℕ} {after : List ℕ} → v ≡ Accepted b p c
-      → (length s ≤ 32768 → (root : Element) → Ordered s tree order root → p ≡ length (payments root) → p ≤ 64 → All Fitting (payments root) → 1024 ≤ length before
-      → after ≡ each numbers-of (payments root) ++ drop (16 * length (payments root)) before)
+      → (length s ≤ 32768 → (root : Element) → Ordered s tree order root → p ≡ length (payments root) → p ≤ 64 → All Fitting (payments root) → least-table ≤ length before
+      → after ≡ each numbers-of (payments root) ++ drop (numbers-per-payment * length (payments root)) before)
       → VerdictPromise profile s before (Accepted b p c) after
   unfolding answer-to verdict-says table-after over written
   accepted-promise {b} {p} {c} {after} e fills = go d e

@@ -8,11 +8,12 @@ use mathlib.Core.Option.{Option}
 use mathlib.Core.Path.{_≡_, refl, sym, ap, _∙_}
 use lib.ListN.{length, getD, set}
 use lib.Seq.{paste, paste-suc, length-paste}
+use Rattle.paper.specs.Sizes.{numbers-per-payment}
 use Rattle.paper.specs.Form.{Element}
 use Rattle.paper.specs.Bytes.{each}
 use Rattle.paper.specs.Rows.{head-of}
 use Rattle.paper.specs.Payments.{Payment, child, inherited, amount-of, either-of}
-use Rattle.paper.specs.Table.{Part, part-of, start-and-length, pairs, numbers-of}
+use Rattle.paper.specs.Table.{Part, part-of, start-and-length, first-pairs, last-pairs, numbers-of}
 use Rattle.tree.specs.Laid.{LaidAt}
 use Rattle.tree.proofs.Laws.{Cell, at-cell, start-cell, close-cell, entry-at}
 use Rattle.tree_routes.specs.Finds.{Finds}
@@ -23,7 +24,7 @@ use Rattle.verdict_table.specs.Rows.{SpanIs, SpansOf, row-of, Fitting}
 use Rattle.verdict_table.specs.declared.Span.{Span}
 use Rattle.verdict_table.specs.declared.Spans.{Spans}
 
--- Two answers that meet `span_of`'s contract agree.
+-- Two answers that meet `field_span`'s contract agree.
 pub spans-agree : {s : List ℕ} {part : Part} (a b : Span) → SpanIs s part a → SpanIs s part b → a ≡ b
 spans-agree a b h k = same-fields (h .start-is ∙ sym (k .start-is)) (h .size-is ∙ sym (k .size-is))
   where
@@ -65,7 +66,8 @@ pasted d at numbers k e l m = rw (e, add-one) (paste-suc d at numbers k 0 l m)
 pub pasted-length : (d : List ℕ) (at : ℕ) (numbers : List ℕ) (k : ℕ) {table : List ℕ} → table ≡ paste d at numbers k → at + k ≤ length d → k ≤ length numbers → length table ≡ length d
 pasted-length d at numbers k e l m = ap length e ∙ length-paste d at numbers k l m
 
-pub pasted-all : (d : List ℕ) (at : ℕ) (numbers : List ℕ) (k : ℕ) {table : List ℕ} → k ≡ 16 → table ≡ paste d at numbers k → table ≡ paste d at numbers 16
+pub pasted-all : (d : List ℕ) (at : ℕ) (numbers : List ℕ) (k : ℕ) {table : List ℕ} → k ≡ numbers-per-payment → table ≡ paste d at numbers k
+    → table ≡ paste d at numbers numbers-per-payment
 pasted-all d at numbers k e f = f ∙ ap (λ (n : ℕ). paste d at numbers n) e
 
 -- the contents of row 16, the payment's or else its block's
@@ -73,7 +75,7 @@ pub kind-found : {s tree : List ℕ} {f : Found} (p : Payment) → Finds s tree 
 unfolding inherited
 kind-found p h = rw (own-row 16 p, block-row 16 p) h
 
--- the sixteen numbers of a payment, none of which is cut
+-- the numbers of a payment, none of which is cut
 module _ {s : List ℕ} {p : Payment} {of : Spans} (w : length s ≤ 32768) (o : SpansOf s p of) where
   uncut : {x y : ℕ} → x < 4294967296 → x ≡ y → x % 4294967296 ≡ y
   uncut h e = mod-eq-of-lt h ∙ e
@@ -86,7 +88,7 @@ module _ {s : List ℕ} {p : Payment} {of : Spans} (w : length s ≤ 32768) (o :
 
   pub the-row : {number cents at : ℕ} {row : List ℕ} → Fitting p → number ≡ p .block-number → cents ≡ amount-of (p .own) → at ≡ head-of (p .own) .at → at ≤ length s
       → row ≡ row-of number of cents at → row ≡ numbers-of p
-  unfolding numbers-of each pairs start-and-length
+  unfolding numbers-of each first-pairs last-pairs start-and-length
   the-row {number} {cents} {at} f n c a b e =
       let e0 : number % 4294967296 ≡ p .block-number = uncut (omega (arith, n, f .numbered)) n in
       let e1 = start-uncut (o .id) in
@@ -104,7 +106,11 @@ module _ {s : List ℕ} {p : Payment} {of : Spans} (w : length s ≤ 32768) (o :
       let e13 : cents / 100 % 4294967296 ≡ amount-of (p .own) / 100 = uncut (omega (arith, c, f .small)) (ap (λ (x : ℕ). x / 100) c) in
       let e14 : cents % 100 ≡ amount-of (p .own) % 100 = ap (λ (x : ℕ). x % 100) c in
       let e15 : at % 4294967296 ≡ head-of (p .own) .at = uncut (omega (arith, b, w)) a in
-      e ∙ rw (e0, e1, e2, e3, e4, e5, e6, e7, e8, e9, e10, e11, e12, e13, e14, e15)
+      let e16 = start-uncut (o .bic) in
+      let e17 = size-uncut (o .bic) in
+      let e18 = start-uncut (o .remittance) in
+      let e19 = size-uncut (o .remittance) in
+      e ∙ rw (e0, e1, e2, e3, e4, e5, e6, e7, e8, e9, e10, e11, e12, e13, e14, e15, e16, e17, e18, e19)
 
 -- an element stands inside the message
 pub own-inside : {s tree : List ℕ} {t : Element} {i at : ℕ} → LaidAt s tree i t → Cell tree i 0 at → at ≤ length s

@@ -1,4 +1,4 @@
-// The lent table after acceptance: sixteen numbers for each payment.
+// The lent table after acceptance: twenty numbers for each payment.
 use rule_limits::Order;
 use rule_limits::PaymentAt;
 use tree::Tree;
@@ -12,9 +12,11 @@ ghost use Prim.Native.Nat.{ℕ, _+_, _*_, _≤_};
 ghost use lib.ListN.{length, drop};
 ghost use lib.Seq.{paste};
 ghost use Rattle.paper.specs.Bytes.{each};
+ghost use Rattle.paper.specs.Sizes.{numbers-per-payment, least-table};
 ghost use Rattle.paper.specs.Form.{Element};
 ghost use Rattle.paper.specs.Payments.{Payment, payments as all-payments};
 ghost use Rattle.paper.specs.Table.{part-of, numbers-of};
+ghost use Rattle.paper.specs.Fields.{field-element};
 ghost use Rattle.paper.specs.Accepted.{All};
 ghost use Rattle.tree_routes.specs.Finds.{Finds, ByName};
 ghost use Rattle.tree_fields.specs.Routes.{RoutesAre};
@@ -27,7 +29,7 @@ pub struct Span {
     pub size: usize,
 }
 
-// The parts of a payment's row: end-to-end id, creditor IBAN, creditor name, ultimate debtor's name, contents of row 16, debtor IBAN.
+// The parts of a payment's row: end-to-end id, creditor IBAN, creditor name, ultimate debtor's name, contents of row 16, debtor IBAN; creditor BIC, remittance.
 pub struct Spans {
     pub id: Span,
     pub creditor: Span,
@@ -35,10 +37,15 @@ pub struct Spans {
     pub ultimate: Span,
     pub kind: Span,
     pub debtor: Span,
+    pub bic: Span,
+    pub remittance: Span,
 }
 
+// The numbers of a payment.
+type Numbers = [u32; paper::NUMBERS_PER_PAYMENT];
+
 // The part that an element holds; 0, 0 where there is none.
-pub fn span_of(tree: &Tree, found: Found) -> Span
+fn span_of(tree: &Tree, found: Found) -> Span
     ensures { λ r. ⌜ ((s : List ℕ) (o : Option Element) → Finds s (now (tree .entry)) o found → SpanIs s (part-of o) r) ⌝ }
 {
     let Found::At(i) = found else {
@@ -55,31 +62,41 @@ pub fn span_of(tree: &Tree, found: Found) -> Span
     }
 }
 
+// The part that a field of a payment holds, where the payment's first children are known, and its block's.
+pub fn field_span(
+    tree: &Tree,
+    routes: &Routes,
+    own: &Children,
+    block: &Children,
+    field: usize,
+) -> Span
+    ensures { λ r. ⌜ ((s : List ℕ) (p : Payment) → RoutesAre (now (routes .entry)) → ByName s (now (tree .entry)) (p .own) (now (own .entry))
+        → ByName s (now (tree .entry)) (p .block) (now (block .entry)) → SpanIs s (part-of (field-element field p)) r) ⌝ }
+{
+    span_of(tree, tree_fields::field_at(tree, routes, own, block, field))
+}
+
 fn spans_of(tree: &Tree, routes: &Routes, own: &Children, block: &Children) -> Spans
     ensures { λ r. ⌜ ((s : List ℕ) (p : Payment) → RoutesAre (now (routes .entry)) → ByName s (now (tree .entry)) (p .own) (now (own .entry))
         → ByName s (now (tree .entry)) (p .block) (now (block .entry)) → SpansOf s p r) ⌝ }
 {
-    let id = span_of(tree, tree_fields::field_at(tree, routes, own, block, 10));
-    let creditor = span_of(tree, tree_fields::field_at(tree, routes, own, block, 14));
-    let name = span_of(tree, tree_fields::field_at(tree, routes, own, block, 13));
-    let ultimate = span_of(tree, tree_fields::field_at(tree, routes, own, block, 8));
-    let kind = span_of(
-        tree,
-        tree_routes::either(tree_routes::first(own, 16), tree_routes::first(block, 16)),
-    );
-    let debtor = span_of(tree, tree_fields::field_at(tree, routes, own, block, 6));
     Spans {
-        id,
-        creditor,
-        name,
-        ultimate,
-        kind,
-        debtor,
+        id: field_span(tree, routes, own, block, 10),
+        creditor: field_span(tree, routes, own, block, 14),
+        name: field_span(tree, routes, own, block, 13),
+        ultimate: field_span(tree, routes, own, block, 8),
+        kind: span_of(
+            tree,
+            tree_routes::either(tree_routes::first(own, 16), tree_routes::first(block, 16)),
+        ),
+        debtor: field_span(tree, routes, own, block, 6),
+        bic: field_span(tree, routes, own, block, 12),
+        remittance: field_span(tree, routes, own, block, 17),
     }
 }
 
-// The sixteen numbers, each of 32 bits.
-fn row(number: usize, of: Spans, cents: u64, at: usize) -> [u32; 16]
+// The numbers, each of 32 bits.
+fn row(number: usize, of: Spans, cents: u64, at: usize) -> Numbers
     ensures { λ r. ⌜ r ≡ row-of number of cents at ⌝ }
 {
     [
@@ -99,34 +116,38 @@ fn row(number: usize, of: Spans, cents: u64, at: usize) -> [u32; 16]
         (cents / 100 % 4294967296) as u32,
         (cents % 100) as u32,
         (at % 4294967296) as u32,
+        (of.bic.start % 4294967296) as u32,
+        (of.bic.size % 4294967296) as u32,
+        (of.remittance.start % 4294967296) as u32,
+        (of.remittance.size % 4294967296) as u32,
     ]
 }
 
-// The sixteen numbers at a place of the table, where it has them.
-fn put(table: &mut [u32], at: usize, numbers: [u32; 16])
-    ensures { λ r. ⌜ (at + 16 ≤ length (now (table .entry)) → now (table .exit) ≡ paste (now (table .entry)) at numbers 16) ⌝ }
+// A payment's numbers at a place of the table, where it has them.
+fn put(table: &mut [u32], at: usize, numbers: Numbers)
+    ensures { λ r. ⌜ (at + numbers-per-payment ≤ length (now (table .entry)) → now (table .exit) ≡ paste (now (table .entry)) at numbers numbers-per-payment) ⌝ }
 {
-    if table.len() < 16 {
+    if table.len() < paper::NUMBERS_PER_PAYMENT {
         return;
     }
-    if table.len() - 16 < at {
+    if table.len() - paper::NUMBERS_PER_PAYMENT < at {
         return;
     }
     let mut k = 0;
-    while k < 16 {
+    while k < paper::NUMBERS_PER_PAYMENT {
         table[at + k] = numbers[k];
         k += 1;
     }
 }
 
-// The sixteen numbers of a payment.
+// The numbers of a payment.
 fn numbers_of(
     s: &[u8],
     tree: &Tree,
     routes: &Routes,
     payment: PaymentAt,
     block: &Children,
-) -> [u32; 16]
+) -> Numbers
     ensures { λ r. ⌜ (length (now (s .entry)) ≤ 32768 → RoutesAre (now (routes .entry)) → (p : Payment) → IsPayment (now (s .entry)) (now (tree .entry)) payment p
         → ByName (now (s .entry)) (now (tree .entry)) (p .block) (now (block .entry)) → Fitting p → r ≡ numbers-of p) ⌝ }
 {
@@ -140,8 +161,8 @@ fn numbers_of(
 // no element at first.
 pub fn fill(s: &[u8], tree: &Tree, order: &Order, payments: usize, table: &mut [u32])
     ensures { λ r. ⌜ (length (now (s .entry)) ≤ 32768 → (root : Element) → Ordered (now (s .entry)) (now (tree .entry)) (now (order .entry)) root
-        → payments ≡ length (all-payments root) → payments ≤ 64 → All Fitting (all-payments root) → 1024 ≤ length (now (table .entry))
-        → now (table .exit) ≡ each numbers-of (all-payments root) ++ drop (16 * length (all-payments root)) (now (table .entry))) ⌝ }
+        → payments ≡ length (all-payments root) → payments ≤ 64 → All Fitting (all-payments root) → least-table ≤ length (now (table .entry))
+        → now (table .exit) ≡ each numbers-of (all-payments root) ++ drop (numbers-per-payment * length (all-payments root)) (now (table .entry))) ⌝ }
 {
     let routes = tree_fields::routes();
     let mut k = 0;
@@ -154,7 +175,11 @@ pub fn fill(s: &[u8], tree: &Tree, order: &Order, payments: usize, table: &mut [
         let payment = rule_limits::payment(order, k);
         block = tree_routes::by_name_again(tree, payment.block, known, block);
         known = payment.block;
-        put(table, 16 * k, numbers_of(s, tree, &routes, payment, &block));
+        put(
+            table,
+            paper::NUMBERS_PER_PAYMENT * k,
+            numbers_of(s, tree, &routes, payment, &block),
+        );
         k += 1;
     }
 }

@@ -28,21 +28,17 @@ by-name-requires-2 c κs = search needs
 routes-requires : tie.Need-routes-requires
 routes-requires c κs = search needs
 
-field-at-requires : tie.Need-field-at-requires
-field-at-requires c κs = search needs
-
-span-of-requires : tie.Need-span-of-requires
-span-of-requires c κs = search needs
+field-span-requires : tie.Need-field-span-requires
+field-span-requires c κs = search needs
 
 part-requires : tie.Need-part-requires
 part-requires c κs = search needs
 
 returns-2 : tie.Need-returns-2
 returns-2 c = λ root o l k.
-    let order = c .before .before .before .before .before .before .before .before .before in
-    let known = order .before .before .before .args in
-    found-part (known .k) (known .field) o l (order .payment .ensures k) (c .before .before .before .before .before .before .before .before .by-name .ensures) (c .before .before .before .before .before .before .before .by-name2 .ensures)
-    (λ s p own block. c .before .before .field-at .ensures s p (c .before .before .before .before .before .before .routes .ensures) own block) (λ s u. c .before .span-of .ensures s u) (c .part .ensures)
+    let known = c .before .before .before .before .before .before .before .before .before .before .before .args in
+    found-part (known .k) (known .field) o l (c .before .before .before .before .before .before .before .before .payment .ensures k) (c .before .before .before .before .before .before .before .by-name .ensures) (c .before .before .before .before .before .before .by-name2 .ensures)
+    (λ s p own block. c .before .field-span .ensures s p (c .before .before .before .before .before .routes .ensures) own block) (c .part .ensures)
 
 pub field-in-spec : {M : Type 1} → statement M
 field-in-spec =
@@ -56,7 +52,6 @@ field-in-spec =
     by-name-requires
     by-name-requires-2
     routes-requires
-    field-at-requires
-    span-of-requires
+    field-span-requires
     part-requires
     returns-2)

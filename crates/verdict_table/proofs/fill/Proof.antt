@@ -3,6 +3,7 @@ use native.Mathlib.Omega.{arith}
 use borrow.Author.Needs.{needs}
 use mathlib.Core.Path.{_≡_, refl, _∙_}
 use lib.ListN.{length}
+use Rattle.paper.specs.Sizes.{least-table}
 use Rattle.paper.specs.Form.{Element}
 use Rattle.paper.specs.Payments.{payments as all-payments}
 use Rattle.paper.specs.Accepted.{All}
@@ -16,7 +17,7 @@ use Rattle.verdict_table.proofs.fill.Tie as tie
 abbrev Inv-loop : tie.InvT-loop
 Inv-loop s tree order payments table₀ routes k₀ known₀ block₀ table k known block =
     (length table ≡ length table₀) × ChildrenOf tree known block × ((root : Element) → length s ≤ 32768 → Ordered s tree order root
-    → payments ≡ length (all-payments root) → All Fitting (all-payments root) → 1024 ≤ length table₀ → Filled s tree order table₀ root payments k table)
+    → payments ≡ length (all-payments root) → All Fitting (all-payments root) → least-table ≤ length table₀ → Filled s tree order table₀ root payments k table)
 
 abbrev μ-loop : tie.MeasureT-loop
 μ-loop s tree order payments table₀ routes k₀ known₀ block₀ table k known block = payments - k

@@ -5,15 +5,16 @@ use native.Mathlib.Omega.{arith}
 use mathlib.Core.Path.{_≡_}
 use lib.ListN.{length}
 use lib.Seq.{paste, paste-zero}
+use Rattle.paper.specs.Sizes.{numbers-per-payment}
 use Rattle.verdict_table.proofs.Laws.{pasted, pasted-length, pasted-all}
 use Rattle.verdict_table.proofs.put.Statement.{statement}
 use Rattle.verdict_table.proofs.put.Tie as tie
 
 abbrev Inv-loop : tie.InvT-loop
-Inv-loop table₀ at numbers k₀ table k = (k ≤ 16) × (length numbers ≡ 16) × (at + 16 ≤ length table₀) × (table ≡ paste table₀ at numbers k)
+Inv-loop table₀ at numbers k₀ table k = (k ≤ numbers-per-payment) × (length numbers ≡ numbers-per-payment) × (at + numbers-per-payment ≤ length table₀) × (table ≡ paste table₀ at numbers k)
 
 abbrev μ-loop : tie.MeasureT-loop
-μ-loop table₀ at numbers k₀ table k = 16 - k
+μ-loop table₀ at numbers k₀ table k = numbers-per-payment - k
 
 returns : tie.Need-returns Inv-loop μ-loop
 returns c = λ h. absurd (omega arith)
