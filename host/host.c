@@ -85,6 +85,13 @@ static void show_part(const char *title, const struct file *message, const uint8
     putchar('\n');
 }
 
+/* One that may be absent: nothing is shown where it is. */
+static void show_part_if_there(const char *title, const struct file *message, const uint8_t *numbers, uint64_t at)
+{
+    if (glowenzo_number(numbers, at) != 0)
+        show_part(title, message, numbers, at);
+}
+
 static void show_payment(const struct file *message, const uint8_t *numbers, uint64_t k)
 {
     printf("payment %" PRIu64 " of block %u at %u: %u.%02u EUR\n", k, glowenzo_number(numbers, GLOWENZO_BLOCK), glowenzo_number(numbers, GLOWENZO_PAYMENT),
@@ -92,10 +99,11 @@ static void show_payment(const struct file *message, const uint8_t *numbers, uin
     show_part("id", message, numbers, GLOWENZO_END_TO_END_ID);
     show_part("from", message, numbers, GLOWENZO_DEBTOR_IBAN);
     show_part("to", message, numbers, GLOWENZO_CREDITOR_IBAN);
+    show_part_if_there("bic", message, numbers, GLOWENZO_CREDITOR_BIC);
     show_part("name", message, numbers, GLOWENZO_CREDITOR_NAME);
-    if (glowenzo_number(numbers, GLOWENZO_ULTIMATE_DEBTOR) != 0)
-        show_part("for", message, numbers, GLOWENZO_ULTIMATE_DEBTOR);
+    show_part_if_there("for", message, numbers, GLOWENZO_ULTIMATE_DEBTOR);
     show_part("type", message, numbers, GLOWENZO_PAYMENT_TYPE);
+    show_part_if_there("remittance", message, numbers, GLOWENZO_REMITTANCE);
 }
 
 static int verdict(uint64_t profile, uint64_t archived, const char *path)

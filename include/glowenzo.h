@@ -9,7 +9,7 @@
  * The table must not overlap the message. Lent parts need no alignment. A part of length 0 is empty whatever its pointer is, also a null pointer; a null
  * pointer with any other length is the caller's error.
  *
- * Stack. A verdict takes about 72 KB of stack and a regrouping about 125 KB, whatever the message. The archive calls the C library's memset, and nothing else.
+ * Stack. A verdict takes about 75 KB of stack and a regrouping about 126 KB, whatever the message. The archive calls the C library's memset, and nothing else.
  */
 #ifndef GLOWENZO_H
 #define GLOWENZO_H
@@ -55,7 +55,7 @@ enum {
     GLOWENZO_BLOCK_ID_REPEATED = 11,     /* block id of an earlier block; offset: its < */
     GLOWENZO_COUNT_DIFFERS = 12,         /* a count differs from the truth; element 6 or 14; offset: its < */
     GLOWENZO_SUM_DIFFERS = 13,           /* a sum differs from the truth; element 7 or 15; offset: its < */
-    GLOWENZO_TABLE_TOO_SHORT = 14,       /* table under 1,024 numbers */
+    GLOWENZO_TABLE_TOO_SHORT = 14,       /* table under 1,280 numbers (5,120 bytes) */
     GLOWENZO_WITHDRAWN = 28              /* row 32 in a new message; offset: its < */
 };
 
@@ -91,15 +91,16 @@ typedef struct {
 
 /*
  * The table (docs/RULES.md, 7 and 10): numbers of four bytes each, high byte first. One to three bytes left at its end make no number and stay as they
- * are. It must have room for 1,024 numbers (4,096 bytes) or more. It is written only if the message is accepted: then payment k, from 0, has the numbers
- * 16k to 16k + 15, and every other byte stays as it is. A start and a length name a part of the message.
+ * are. It must have room for 1,280 numbers (5,120 bytes) or more. It is written only if the message is accepted: then payment k, from 0, has the numbers
+ * 20k to 20k + 19, and every other byte stays as it is. A start and a length name a part of the message. Three of these parts may be absent, as is said of
+ * them below; start and length are then 0, 0, and a start is 0 only then.
  */
 enum {
-    GLOWENZO_TABLE_BYTES = 4096,         /* the least table that is long enough, for every message */
-    GLOWENZO_NUMBERS_PER_PAYMENT = 16,
+    GLOWENZO_TABLE_BYTES = 5120,         /* the least table that is long enough, for every message */
+    GLOWENZO_NUMBERS_PER_PAYMENT = 20,
 
     GLOWENZO_BLOCK = 0,                  /* ordinal of the payment's block, from 0 */
-    GLOWENZO_END_TO_END_ID = 1,          /* start; the length is the number after it, here and below */
+    GLOWENZO_END_TO_END_ID = 1,          /* start; the length is the number after it, here and below but for 13 to 15 */
     GLOWENZO_CREDITOR_IBAN = 3,
     GLOWENZO_CREDITOR_NAME = 5,
     GLOWENZO_ULTIMATE_DEBTOR = 7,        /* name, the payment's or its block's; 0, 0 where there is none */
@@ -108,7 +109,9 @@ enum {
     GLOWENZO_DEBTOR_IBAN = 11,           /* its block's */
     GLOWENZO_EUROS = 13,                 /* whole euros of the amount */
     GLOWENZO_CENTS = 14,                 /* and cents, 0 to 99 */
-    GLOWENZO_PAYMENT = 15                /* offset of the payment's < */
+    GLOWENZO_PAYMENT = 15,               /* offset of the payment's < */
+    GLOWENZO_CREDITOR_BIC = 16,          /* 0, 0 where there is none */
+    GLOWENZO_REMITTANCE = 18             /* the text of Ustrd (row 49) or of Ref (row 55); 0, 0 where there is none */
 };
 
 /* The n-th number of a table. */
