@@ -268,6 +268,10 @@ static void verdict_line(uint64_t profile, const struct input *message, double m
            (unsigned long)v.number, ns[0] / 1e3, ns[1] / 1e3, ns[2] / 1e3, ns[3] / 1e3, ns[0] / (double)message->length, ns[0] / ns[1], ns[0] / ns[3],
            ns[0] / ns[2], most, bar(ns[0] / ns[2], most));
     same(message->name, memcmp(&v, &w, sizeof v) == 0);
+    if (v.number == GLOWENZO_TABLE_TOO_SHORT) {
+        puts("  WRONG: the table is too short, and nothing was read");
+        missed = 1;
+    }
 }
 
 static void regroup_line(const char *name, const struct input *first, const struct input *second, const struct input *list)

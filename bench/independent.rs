@@ -1,12 +1,10 @@
 //! The independent implementation behind the interface of include/glowenzo.h, under names of its own, for the benchmark.
 
-use independent::{regroup, verdict, Age, Profile, Regroup, Verdict};
+use independent::{regroup, verdict, Age, Profile, Regroup, Verdict, LEAST_NUMBERS, NUMBERS_EACH};
 
 /// Number, element, offset, blocks, payments, cents; or whose, number, element, offset, k, field.
 #[repr(C)]
 pub struct Answer([u64; 6]);
-
-const LEAST_NUMBERS: usize = 1024;
 
 /// # Safety
 /// The pointers are of parts of these lengths that nothing else uses, or null with length 0.
@@ -34,7 +32,7 @@ pub unsafe extern "C" fn independent_verdict(
     let lent = table.len() / 4;
     match verdict(Profile::numbered(profile), Age::numbered(archived), message, &mut numbers[..LEAST_NUMBERS.min(lent)]) {
         Verdict::Accepted { blocks, payments, cents } => {
-            for (bytes, number) in table.chunks_exact_mut(4).zip(&numbers[..16 * payments as usize]) {
+            for (bytes, number) in table.chunks_exact_mut(4).zip(&numbers[..NUMBERS_EACH * payments as usize]) {
                 bytes.copy_from_slice(&number.to_be_bytes());
             }
             Answer([0, 0, 0, blocks.into(), payments.into(), cents])

@@ -7,7 +7,7 @@
 //! moved.xml: the payments of 64.xml in opposite order, and reversed.rgl, the list for it; changed.xml: the same with the last remittance changed.
 //! The others are refused, each after as much work as its refusal allows. All are read as new: every debtor's agent has a BIC.
 
-use independent::{regroup, verdict, Age, Profile, Regroup, Verdict};
+use independent::{regroup, verdict, Age, Profile, Regroup, Verdict, LEAST_NUMBERS};
 use std::io;
 use std::path::Path;
 
@@ -99,7 +99,7 @@ fn write(folder: &Path, name: &str, message: &str, wanted: Verdict) -> io::Resul
 }
 
 fn write_under(profile: Profile, folder: &Path, name: &str, message: &str, wanted: Verdict) -> io::Result<()> {
-    assert_eq!(verdict(profile, NEW, message.as_bytes(), &mut [0; 1024]), wanted, "{name}");
+    assert_eq!(verdict(profile, NEW, message.as_bytes(), &mut [0; LEAST_NUMBERS]), wanted, "{name}");
     std::fs::write(folder.join(name).with_extension("xml"), message)
 }
 

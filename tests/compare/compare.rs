@@ -6,10 +6,12 @@
 //! answer and the whole run. Both must be what the independent implementation says: the answer, every byte of the table, and every other byte as it was.
 //! Each call names a profile by a number, and says by a number whether the message, or the first one, is archived; a part of the messages and pairs is read
 //! under both profiles, a part as new and as archived. The inputs of the first differences are written to FOLDER. It fails on any difference, and if under
-//! one of the profiles, as new or as archived, a refusal that can be reached never was, or a number that can't was, or no total was as wide as the largest.
+//! one of the profiles, as new or as archived, a refusal that can be reached never was, or a number that can't was, or no total was as wide as the largest,
+//! or a table of a length around the least was never lent with a message that is accepted if the table is long enough, or a kind of creditor's agent or of
+//! remittance never stood in an accepted message.
 
-use independent::generate::{self, random::Random, Pair};
-use independent::{field, regroup, verdict, Age, Profile, Regroup, Verdict};
+use independent::generate::{self, last_pairs, random::Random, Pair};
+use independent::{field, regroup, verdict, Age, Profile, Regroup, Verdict, LEAST_NUMBERS};
 use std::collections::{BTreeMap, BTreeSet};
 use std::io::{self, Read, Write};
 use std::path::Path;
@@ -42,6 +44,18 @@ const WITHDRAWN: u64 = 28;
 
 /// The bits of the largest total, that of 64 payments of 99,999,999,999 cents.
 const WIDEST: u64 = 43;
+
+/// The bytes of the least table that is long enough.
+const LEAST_BYTES: usize = 4 * LEAST_NUMBERS;
+
+/// Lengths of tables, in bytes, that are lent one after the other with the same message: hardly any, all around the least, and many.
+#[rustfmt::skip]
+const LENGTHS: [usize; 15] = [
+    0, 1, 3, 4,
+    LEAST_BYTES - 4, LEAST_BYTES - 3, LEAST_BYTES - 2, LEAST_BYTES - 1,
+    LEAST_BYTES, LEAST_BYTES + 1, LEAST_BYTES + 2, LEAST_BYTES + 3, LEAST_BYTES + 4,
+    65_536, 65_539,
+];
 
 /// The field that is the debtor's agent, and its text where that was not provided.
 const AGENT: u64 = 7;
@@ -83,6 +97,10 @@ struct Call {
     said: Said,
     /// The agents differ, and the first message's was not provided.
     not_provided: bool,
+    /// The message of a verdict is accepted if its table is long enough.
+    acceptable: bool,
+    /// Of each payment, if it is accepted: the elements of its last two pairs.
+    last_pairs: Vec<String>,
     lent: Vec<u8>,
     /// Place and length of each part in what is lent.
     parts: [(u32, u32); 3],
@@ -205,27 +223,35 @@ fn verdict_calls(seed: u64, index: u64) -> Vec<Call> {
     let case = generate::case(seed, index);
     let message = if random.below(1000) == 0 { Vec::new() } else { case.message };
     let readings = readings(case.profile, case.age, random);
-    readings.into_iter().map(|said| verdict_call(index, said, &message, case.table, random)).collect()
+    let mut calls = Vec::new();
+    for said in readings {
+        calls.push(verdict_call(index, said, &message, table_bytes(case.table, random), random));
+        if random.below(40) == 0 {
+            calls.extend(LENGTHS.map(|length| verdict_call(index, said, &message, length, random)));
+        }
+    }
+    calls
 }
 
-fn verdict_call(index: u64, said: Said, message: &[u8], numbers: usize, random: &mut Random) -> Call {
-    let table = noise(table_bytes(numbers, random), random);
+fn verdict_call(index: u64, said: Said, message: &[u8], table: usize, random: &mut Random) -> Call {
+    let table = noise(table, random);
     let (lent, parts) = lay([message, &table, &[]], random);
-    let (answer, table) = independent_verdict(said, message, table);
+    let acceptable = is_acceptable(said, message);
+    let (answer, table, last_pairs) = independent_verdict(said, message, table);
     let mut after = lent.clone();
     if parts[1].0 != NULL {
         after[range(parts[1])].copy_from_slice(&table);
     }
-    Call { kind: Kind::Verdict, index, said, not_provided: false, lent, parts, answer, after }
+    Call { kind: Kind::Verdict, index, said, not_provided: false, acceptable, last_pairs, lent, parts, answer, after }
 }
 
 /// Lengths around the least, odd ones, very short and long ones.
 fn table_bytes(numbers: usize, random: &mut Random) -> usize {
     match random.below(40) {
-        0 => random.below(4096),
-        1 => random.between(4088, 4104),
-        2 => random.between(4097, 9000),
-        3 => *random.pick(&[0, 1, 3, 4, 4092, 4095, 4096, 4097, 4099, 4100, 65_536, 65_539]),
+        0 => random.below(LEAST_BYTES),
+        1 => random.between(LEAST_BYTES - 8, LEAST_BYTES + 8),
+        2 => random.between(LEAST_BYTES + 1, 2 * LEAST_BYTES),
+        3 => *random.pick(&LENGTHS),
         4..=20 => 4 * numbers + random.below(4),
         _ => 4 * numbers,
     }
@@ -242,7 +268,7 @@ fn regroup_call(index: u64, said: Said, pair: &Pair, random: &mut Random) -> Cal
     let (lent, parts) = lay([&pair.first, &pair.second, &pair.list], random);
     let answer = independent_regroup(said, pair);
     let not_provided = answer[1] == 20 && answer[5] == AGENT && agent_of_first(said, pair, answer[4]) == NOT_PROVIDED;
-    Call { kind: Kind::Regroup, index, said, not_provided, after: lent.clone(), lent, parts, answer }
+    Call { kind: Kind::Regroup, index, said, not_provided, acceptable: false, last_pairs: Vec::new(), after: lent.clone(), lent, parts, answer }
 }
 
 /// The agent of the payment that the list names at k, as the first message has it.
@@ -277,17 +303,23 @@ fn range((place, length): (u32, u32)) -> std::ops::Range<usize> {
     place as usize..(place + length) as usize
 }
 
-/// The independent implementation behind the exported function's interface: a table of bytes, high byte first.
-fn independent_verdict(said: Said, message: &[u8], mut table: Vec<u8>) -> ([u64; 6], Vec<u8>) {
+fn is_acceptable(said: Said, message: &[u8]) -> bool {
+    matches!(verdict(said.profile(), said.age(), message, &mut [0; LEAST_NUMBERS]), Verdict::Accepted { .. })
+}
+
+/// The independent implementation behind the exported function's interface: a table of bytes, high byte first. Then what the payments' last two pairs are of.
+fn independent_verdict(said: Said, message: &[u8], mut table: Vec<u8>) -> ([u64; 6], Vec<u8>, Vec<String>) {
     let mut numbers: Vec<u32> = table.chunks_exact(4).map(|bytes| u32::from_be_bytes(bytes.try_into().unwrap())).collect();
-    let answer = match verdict(said.profile(), said.age(), message, &mut numbers) {
-        Verdict::Accepted { blocks, payments, cents } => [0, 0, 0, blocks.into(), payments.into(), cents],
-        Verdict::Refused { number, element, offset } => [number.into(), element.into(), offset as u64, 0, 0, 0],
+    let (answer, last_pairs) = match verdict(said.profile(), said.age(), message, &mut numbers) {
+        Verdict::Accepted { blocks, payments, cents } => {
+            ([0, 0, 0, blocks.into(), payments.into(), cents], last_pairs::of(message, &numbers, payments as usize))
+        }
+        Verdict::Refused { number, element, offset } => ([number.into(), element.into(), offset as u64, 0, 0, 0], Vec::new()),
     };
     for (bytes, number) in table.chunks_exact_mut(4).zip(numbers) {
         bytes.copy_from_slice(&number.to_be_bytes());
     }
-    (answer, table)
+    (answer, table, last_pairs)
 }
 
 fn independent_regroup(said: Said, pair: &Pair) -> [u64; 6] {
@@ -301,8 +333,11 @@ fn independent_regroup(said: Said, pair: &Pair) -> [u64; 6] {
 }
 
 fn name(call: &Call) -> String {
-    let kind = if call.kind == Kind::Verdict { "verdict" } else { "regrouping" };
-    format!("{kind} {} profile {} archived {}", call.index, call.said.profile, call.said.archived)
+    let (kind, table) = match call.kind {
+        Kind::Verdict => ("verdict", format!(" table {}", call.parts[1].1)),
+        Kind::Regroup => ("regrouping", String::new()),
+    };
+    format!("{kind} {}{table} profile {} archived {}", call.index, call.said.profile, call.said.archived)
 }
 
 fn report(call: &Call, answer: &[u64; 6], after: &[u8], folder: &Path) -> io::Result<()> {
@@ -467,6 +502,7 @@ impl Each {
         let of_first = format!("{name}, the first message's refusal");
         let mut held = vec![
             seen.print(&name),
+            seen.tables.print(&name),
             seen.messages.on(rows, &name),
             seen.messages.on(&OF_AGENTS, &name),
             seen.messages.on(of_age, &name),
@@ -497,6 +533,76 @@ struct Seen {
     not_provided: Reached,
     /// How many bits a total has that 32 can't hold.
     totals: Reached,
+    tables: Tables,
+}
+
+/// What was seen of tables.
+#[derive(Default)]
+struct Tables {
+    /// How often a table of so many bytes was answered how, the message being acceptable or not.
+    answers: BTreeMap<(bool, usize), BTreeMap<&'static str, u64>>,
+    /// Of which elements the last two pairs of accepted payments are.
+    last_pairs: BTreeMap<String, u64>,
+}
+
+impl Tables {
+    fn add(&mut self, call: &Call) {
+        let answer = match call.answer[0] {
+            0 => "accepted",
+            SHORT_TABLE => "too short",
+            _ => "refused otherwise",
+        };
+        let length = call.parts[1].1 as usize;
+        *self.answers.entry((call.acceptable, length)).or_default().entry(answer).or_default() += 1;
+        for elements in &call.last_pairs {
+            *self.last_pairs.entry(elements.clone()).or_default() += 1;
+        }
+    }
+
+    /// Whether all lengths were lent, with acceptable messages and with others, and whether the last two pairs were of all elements that they can be of.
+    fn print(&self, name: &str) -> bool {
+        let held = [
+            self.lengths(true, &format!("{name}, bytes of tables, the message acceptable")),
+            self.lengths(false, &format!("{name}, bytes of tables, the message not acceptable")),
+            self.elements(&format!("{name}, creditor's agent and remittance of accepted payments")),
+        ];
+        held.into_iter().all(|held| held)
+    }
+
+    /// Whether each length was lent, too short exactly below the least, and answered by the message's own verdict from there on.
+    fn lengths(&self, acceptable: bool, title: &str) -> bool {
+        let own = if acceptable { "accepted" } else { "refused otherwise" };
+        let none = BTreeMap::new();
+        let (mut lent, mut missing) = (Vec::new(), Vec::new());
+        for length in LENGTHS {
+            let answers = self.answers.get(&(acceptable, length)).unwrap_or(&none);
+            lent.extend(answers.iter().map(|(answer, times)| format!("{length} {answer} {times} times")));
+            let wanted = if length < LEAST_BYTES { "too short" } else { own };
+            if !answers.keys().eq([&wanted]) {
+                missing.push(length);
+            }
+        }
+        println!("{title}: {}", lent.join(", "));
+        if !missing.is_empty() {
+            println!("NEVER LENT, or answered otherwise: {title} {missing:?}");
+        }
+        missing.is_empty()
+    }
+
+    fn elements(&self, title: &str) -> bool {
+        let seen: Vec<String> = self.last_pairs.iter().map(|(elements, times)| format!("{elements} {times} times")).collect();
+        println!("{title}: {}", seen.join("; "));
+        let all = last_pairs::all();
+        let missing: Vec<&String> = all.iter().filter(|elements| !self.last_pairs.contains_key(*elements)).collect();
+        let others: Vec<&String> = self.last_pairs.keys().filter(|elements| !all.contains(elements)).collect();
+        if !missing.is_empty() {
+            println!("NEVER REACHED: {title} {missing:?}");
+        }
+        if !others.is_empty() {
+            println!("REACHED: {title} {others:?}");
+        }
+        missing.is_empty() && others.is_empty()
+    }
 }
 
 impl Seen {
@@ -509,7 +615,10 @@ impl Seen {
             self.totals.add(u64::from(u64::BITS - answer[5].leading_zeros()), 0);
         }
         match (call.kind, answer[0]) {
-            (Kind::Verdict, number) => self.messages.add(number, answer[1]),
+            (Kind::Verdict, number) => {
+                self.messages.add(number, answer[1]);
+                self.tables.add(call);
+            }
             (Kind::Regroup, 0) => {
                 self.pairs.add(answer[1], answer[5]);
                 if answer[1] == 20 {

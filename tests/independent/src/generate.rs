@@ -5,11 +5,12 @@ pub mod arrange;
 pub mod damage;
 pub mod draft;
 pub mod instant;
+pub mod last_pairs;
 pub mod random;
 pub mod transfer;
 
 use crate::usage::MOST_PAYMENTS;
-use crate::{Age, Profile, Refusal, Regroup, LONGEST_MESSAGE};
+use crate::{Age, Profile, Refusal, Regroup, LEAST_NUMBERS, LONGEST_MESSAGE};
 use damage::DAMAGES;
 use draft::{Draft, Layout};
 use random::Random;
@@ -56,9 +57,10 @@ pub fn case(seed: u64, index: u64) -> Case {
     let profile = if random.percent(5) { made.profile.other() } else { made.profile };
     let age = if random.percent(10) { made.age.other() } else { made.age };
     let table = match random.below(50) {
-        0 => random.below(1024),
-        1 => random.between(1025, 1100),
-        _ => 1024,
+        0 => random.below(LEAST_NUMBERS),
+        1 => random.between(LEAST_NUMBERS - 1, LEAST_NUMBERS + 1),
+        2 => random.between(LEAST_NUMBERS + 1, LEAST_NUMBERS + 100),
+        _ => LEAST_NUMBERS,
     };
     Case { profile, age, message: any_message(made, random), table }
 }

@@ -21,6 +21,7 @@ pub use fields::field;
 pub use form::{form, Tree};
 pub use profile::Profile;
 pub use regroup::{differing, regroup, Regroup};
+pub use table::{LEAST_NUMBERS, NUMBERS_EACH};
 
 use order::Order;
 use std::fmt;
@@ -88,7 +89,7 @@ fn judge<'m>(
     message: &'m [u8],
     table: &[u32],
 ) -> Result<Accepted<'m>, Refusal> {
-    if table.len() < table::LEAST_NUMBERS {
+    if table.len() < LEAST_NUMBERS {
         return Err(Refusal::new(14, 0, 0));
     }
     read(profile, age, message)

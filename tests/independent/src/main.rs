@@ -1,7 +1,9 @@
 //! The command line: verdict, form, regroup, and the generator's cases.
 
 use independent::generate::{self, Case, Pair};
-use independent::{form, regroup, verdict, Age, Profile, Regroup, Verdict};
+use independent::{
+    form, regroup, verdict, Age, Profile, Regroup, Verdict, LEAST_NUMBERS, NUMBERS_EACH,
+};
 use std::collections::{BTreeMap, BTreeSet};
 use std::ffi::OsString;
 use std::fs;
@@ -109,13 +111,13 @@ fn form_lines(message: &[u8]) -> Vec<String> {
 }
 
 fn verdict_lines(profile: Profile, age: Age, message: &[u8]) -> Vec<String> {
-    let mut table = [0; 1024];
+    let mut table = [0; LEAST_NUMBERS];
     let answer = verdict(profile, age, message, &mut table);
     let payments = match answer {
         Verdict::Accepted { payments, .. } => payments as usize,
         Verdict::Refused { .. } => 0,
     };
-    let rows = table.chunks_exact(16).take(payments).enumerate();
+    let rows = table.chunks_exact(NUMBERS_EACH).take(payments).enumerate();
     let payments = rows.map(|(ordinal, row)| payment_line(message, ordinal, row));
     std::iter::once(answer.to_string()).chain(payments).collect()
 }

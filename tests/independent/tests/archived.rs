@@ -4,6 +4,7 @@
 mod common;
 use common::edits::{message, recounted};
 use common::*;
+use independent::LEAST_NUMBERS;
 use independent::{differing, field, regroup, verdict, Age, Profile, Refusal, Regroup, Verdict};
 
 const BIC: &str = "<BICFI>AAAALULL</BICFI>";
@@ -230,7 +231,8 @@ fn usage_ids_counts_and_sums_come_later() {
 fn table_size_and_form_come_first() {
     for age in Age::BOTH {
         for (profile, text) in both_profiles(not_provided) {
-            assert_eq!(verdict(profile, age, text.as_bytes(), &mut [0; 1023]), refused(14, 0, 0));
+            let mut short = [0; LEAST_NUMBERS - 1];
+            assert_eq!(verdict(profile, age, text.as_bytes(), &mut short), refused(14, 0, 0));
             let long = format!("{text:32769}");
             assert_eq!(judge_as(profile, age, long), refused(1, 0, 32_768));
             let cut = text.trim_end().trim_end_matches('>');
@@ -260,7 +262,7 @@ fn archived_excuses_row_32_alone() {
 #[test]
 fn the_table_is_filled_for_an_archived_message_and_kept_for_a_new_one() {
     for (profile, text) in both_profiles(not_provided) {
-        let [mut archived, mut plain, mut new] = [[7; 1024]; 3];
+        let [mut archived, mut plain, mut new] = [[7; LEAST_NUMBERS]; 3];
         assert_eq!(
             verdict(profile, Age::Archived, text.as_bytes(), &mut archived),
             accepted(1, 2, 3510)
@@ -269,7 +271,7 @@ fn the_table_is_filled_for_an_archived_message_and_kept_for_a_new_one() {
         verdict(profile, Age::New, provided.as_bytes(), &mut plain);
         assert_eq!(archived, plain);
         verdict(profile, Age::New, text.as_bytes(), &mut new);
-        assert_eq!(new, [7; 1024]);
+        assert_eq!(new, [7; LEAST_NUMBERS]);
     }
 }
 

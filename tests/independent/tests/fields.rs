@@ -5,6 +5,7 @@ use common::asked::{self, Asked};
 use common::pairs::{self, Pair};
 use common::*;
 use independent::{differing, field, regroup, verdict, Age, Profile, Regroup, Verdict};
+use independent::{LEAST_NUMBERS, NUMBERS_EACH};
 use std::collections::BTreeSet;
 
 /// The fields that a payment need not have.
@@ -42,13 +43,14 @@ struct Of<'m> {
 
 fn fields_of(asked: &Asked) -> Vec<Of<'_>> {
     let Asked { profile, age, message, payment, fields, .. } = asked;
-    let mut table = [0; 1024];
+    let mut table = [0; LEAST_NUMBERS];
     let answer = verdict(*profile, *age, message.as_bytes(), &mut table);
     let Verdict::Accepted { payments, .. } = answer else { return Vec::new() };
     if *payment >= payments as usize {
         return Vec::new();
     }
-    let (block, offset) = (table[16 * payment], table[16 * payment + 15] as usize);
+    let row = &table[NUMBERS_EACH * payment..];
+    let (block, offset) = (row[0], row[15] as usize);
     let known = fields.clone().filter(|number| (1..=17).contains(number));
     known
         .map(|number| {

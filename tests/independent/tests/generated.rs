@@ -3,12 +3,13 @@
 
 mod common;
 use common::edits::recounted;
-use common::list;
+use common::{judge_as, list};
 use independent::generate::transfer::{Remittance, Transfer};
-use independent::generate::{case, pair, sound_message};
+use independent::generate::{case, last_pairs, pair, sound_message};
 use independent::rows::{rows_of, tag};
 use independent::values::cents;
 use independent::{differing, field, form, regroup, verdict, Age, Profile, Regroup, Verdict};
+use independent::{LEAST_NUMBERS, NUMBERS_EACH};
 use std::collections::{BTreeMap, BTreeSet};
 
 const SEED: u64 = 2026;
@@ -21,16 +22,19 @@ fn text((profile, age): Read, message: &[u8], payment: usize, number: usize) -> 
     std::str::from_utf8(&message[start..start + length]).unwrap()
 }
 
+fn remittance_text(transfer: &Transfer) -> &str {
+    match &transfer.remittance {
+        None => "",
+        Some(Remittance::Plain(text)) => text,
+        Some(Remittance::Reference { reference, .. }) => reference,
+    }
+}
+
 /// The texts a transfer's fields must have; none where several are allowed.
 fn expected_texts(transfer: &Transfer) -> [Option<String>; 17] {
     let absent = |text: &Option<String>| Some(text.clone().unwrap_or_default());
     let side = &transfer.side;
     let agent = side.agent.clone().unwrap_or("NOTPROVIDED".to_string());
-    let remittance = match &transfer.remittance {
-        None => String::new(),
-        Some(Remittance::Plain(text)) => text.clone(),
-        Some(Remittance::Reference { reference, .. }) => reference.clone(),
-    };
     [
         (!side.batch).then(|| "false".to_string()),
         transfer.kind.high.then(|| "HIGH".to_string()),
@@ -48,7 +52,7 @@ fn expected_texts(transfer: &Transfer) -> [Option<String>; 17] {
         Some(transfer.creditor_account.clone()),
         absent(&transfer.ultimate_creditor),
         absent(&transfer.purpose),
-        Some(remittance),
+        Some(remittance_text(transfer).to_string()),
     ]
 }
 
@@ -83,7 +87,7 @@ fn in_all_four(many: u64) -> impl Iterator<Item = (Read, u64)> {
 fn sound_messages_fill_the_table() {
     for ((profile, age), index) in in_all_four(400) {
         let sound = sound_message(profile, age, SEED + 1, index);
-        let mut table = vec![0xABCD; 1040];
+        let mut table = vec![0xABCD; LEAST_NUMBERS + 16];
         let answer = verdict(profile, age, &sound.message, &mut table);
         let Verdict::Accepted { blocks, payments, cents } = answer else { panic!("{answer:?}") };
         assert_eq!(payments as usize, sound.transfers.len());
@@ -93,9 +97,9 @@ fn sound_messages_fill_the_table() {
             std::str::from_utf8(&sound.message[start..start + length]).unwrap()
         };
         for (k, transfer) in sound.transfers.iter().enumerate() {
-            let at = 16 * k;
+            let at = NUMBERS_EACH * k;
             assert!(table[at] < blocks);
-            assert!(k == 0 || table[at] == table[at - 16] || table[at] == table[at - 16] + 1);
+            assert!(k == 0 || table[at].wrapping_sub(table[at - NUMBERS_EACH]) <= 1);
             assert_eq!(part(at + 1), transfer.end_to_end);
             assert_eq!(part(at + 3), transfer.creditor_account);
             assert_eq!(part(at + 5), transfer.creditor);
@@ -107,8 +111,12 @@ fn sound_messages_fill_the_table() {
             assert_eq!(part(at + 11), transfer.side.account);
             assert_eq!(u64::from(table[at + 13]) * 100 + u64::from(table[at + 14]), transfer.cents);
             assert!(sound.message[table[at + 15] as usize..].starts_with(b"<CdtTrfTxInf>"));
+            assert_eq!(part(at + 16), transfer.creditor_agent.as_deref().unwrap_or(""));
+            assert_eq!(transfer.creditor_agent.is_none(), table[at + 16] == 0);
+            assert_eq!(part(at + 18), remittance_text(transfer));
+            assert_eq!(transfer.remittance.is_none(), table[at + 18] == 0);
         }
-        assert!(table[16 * payments as usize..].iter().all(|number| *number == 0xABCD));
+        assert!(table[NUMBERS_EACH * payments as usize..].iter().all(|number| *number == 0xABCD));
     }
 }
 
@@ -132,7 +140,7 @@ fn sound_messages_span_the_subset() {
         let mut blocks = BTreeSet::new();
         let mut payments = BTreeSet::new();
         for sound in &sounds {
-            let answer = verdict(profile, age, &sound.message, &mut [0; 1024]);
+            let answer = judge_as(profile, age, &sound.message);
             let Verdict::Accepted { blocks: b, payments: p, .. } = answer else {
                 panic!("{answer:?}")
             };
@@ -148,7 +156,7 @@ fn sound_messages_span_the_subset() {
 fn a_sound_message_is_refused_under_the_other_profile() {
     for ((profile, age), index) in in_all_four(300) {
         let message = sound_message(profile, age, SEED + 5, index).message;
-        let answer = verdict(profile.other(), age, &message, &mut [0; 1024]);
+        let answer = judge_as(profile.other(), age, &message);
         let Verdict::Refused { number, element, offset } = answer else { panic!("{answer:?}") };
         let at = &message[offset..];
         match (profile.instant, element) {
@@ -167,17 +175,57 @@ fn a_sound_archived_message_is_refused_as_new_exactly_where_it_holds_row_32() {
     let mut held = 0;
     for ((profile, made), index) in in_all_four(300) {
         let message = sound_message(profile, made, SEED + 6, index).message;
-        let archived = verdict(profile, Age::Archived, &message, &mut [0; 1024]);
+        let archived = judge_as(profile, Age::Archived, &message);
         assert!(matches!(archived, Verdict::Accepted { .. }));
         let wanted = match message.windows(6).position(|piece| piece == b"<Othr>") {
             Some(offset) => Verdict::Refused { number: 28, element: 32, offset },
             None => archived,
         };
-        assert_eq!(verdict(profile, Age::New, &message, &mut [0; 1024]), wanted);
+        assert_eq!(judge_as(profile, Age::New, &message), wanted);
         held += u32::from(wanted != archived);
         assert!(wanted == archived || made == Age::Archived);
     }
     assert!((200..400).contains(&held), "{held}");
+}
+
+/// Under each profile, as new and as archived.
+#[test]
+fn accepted_messages_have_every_agent_and_remittance() {
+    let mut read: BTreeMap<(u64, Age), BTreeMap<String, u32>> = BTreeMap::new();
+    for index in 0..4000 {
+        let case = case(SEED + 9, index);
+        let met = read.entry((case.profile.number(), case.age)).or_default();
+        let mut table = [7; LEAST_NUMBERS];
+        let answer = verdict(case.profile, case.age, &case.message, &mut table);
+        let Verdict::Accepted { payments, .. } = answer else { continue };
+        for shown in last_pairs::of(&case.message, &table, payments as usize) {
+            *met.entry(shown).or_insert(0) += 1;
+        }
+    }
+    assert_eq!(read.len(), 4);
+    for met in read.values() {
+        let shown: BTreeSet<String> = met.keys().cloned().collect();
+        assert_eq!(shown, last_pairs::all().into_iter().collect());
+        assert!(met.values().all(|many| *many > 20), "{met:?}");
+    }
+}
+
+#[test]
+fn tables_around_the_least_are_lent_with_acceptable_messages() {
+    let mut lent = BTreeSet::new();
+    for index in 0..5000 {
+        let case = case(SEED + 10, index);
+        let acceptable = judge_as(case.profile, case.age, &case.message);
+        let Verdict::Accepted { .. } = acceptable else { continue };
+        let answer = verdict(case.profile, case.age, &case.message, &mut vec![0; case.table]);
+        let short = Verdict::Refused { number: 14, element: 0, offset: 0 };
+        assert_eq!(answer, if case.table < LEAST_NUMBERS { short } else { acceptable });
+        lent.insert(case.table);
+    }
+    let mut around = LEAST_NUMBERS - 1..=LEAST_NUMBERS + 1;
+    assert!(around.all(|numbers| lent.contains(&numbers)), "{lent:?}");
+    let far = [lent.first().unwrap() + NUMBERS_EACH, lent.last().unwrap() - NUMBERS_EACH];
+    assert!(far[0] < LEAST_NUMBERS && LEAST_NUMBERS < far[1], "{lent:?}");
 }
 
 #[test]
@@ -234,7 +282,7 @@ fn large_totals_and_sums_wrong_by_32_bits_are_made() {
     let mut wrong = BTreeMap::new();
     for index in 0..8000 {
         let case = case(SEED + 8, index);
-        match verdict(case.profile, case.age, &case.message, &mut [0; 1024]) {
+        match judge_as(case.profile, case.age, &case.message) {
             Verdict::Accepted { cents, .. } if cents >= 1 << 32 => {
                 *large.entry((case.profile.number(), case.age)).or_insert(0) += 1;
                 largest += u32::from(cents == 64 * 99_999_999_999);
@@ -272,7 +320,7 @@ fn every_regrouping_refusal_is_reached_and_as_expected() {
             Regroup::Message { whose, refusal } => {
                 let (message, age) =
                     if whose == 1 { (&pair.first, pair.age) } else { (&pair.second, Age::New) };
-                let judged = verdict(pair.profile, age, message, &mut [0; 1024]);
+                let judged = judge_as(pair.profile, age, message);
                 let Verdict::Refused { number, .. } = judged else { panic!() };
                 assert_eq!(number, refusal.number);
                 numbers.insert(100 * whose);
@@ -326,7 +374,7 @@ fn a_message_regroups_itself_by_the_rising_list_but_for_row_32() {
         let sound = sound_message(profile, made, SEED + 3, index);
         let message = &sound.message;
         let ordinals: Vec<u16> = (0..sound.transfers.len() as u16).collect();
-        let as_new = verdict(profile, Age::New, message, &mut [0; 1024]);
+        let as_new = judge_as(profile, Age::New, message);
         for age in Age::BOTH {
             let answer = regroup(profile, age, message, message, &list(&ordinals));
             match (as_new, answer) {

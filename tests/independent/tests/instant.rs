@@ -5,6 +5,7 @@ use common::edits::{dated, moment};
 use common::*;
 use independent::values::{fault, Fault};
 use independent::{differing, field, regroup, verdict, Age, Profile, Refusal, Regroup, Verdict};
+use independent::{LEAST_NUMBERS, NUMBERS_EACH};
 
 const NEW: Age = Age::New;
 const DAY: &str = "<Dt>2026-03-04</Dt>";
@@ -233,20 +234,20 @@ fn values_of_both_rows_are_tried_in_the_order_of_the_file() {
 
 #[test]
 fn the_tables_part_for_row_16_holds_56_too() {
-    let (message, mut table) = (i1(), [7; 1024]);
+    let (message, mut table) = (i1(), [7; LEAST_NUMBERS]);
     assert_eq!(
         verdict(Profile::INSTANT, NEW, message.as_bytes(), &mut table),
         accepted(1, 2, 3510)
     );
-    for first in [0, 16] {
+    for first in [0, NUMBERS_EACH] {
         let (start, length) = (table[first + 9] as usize, table[first + 10] as usize);
         let wanted = "<SvcLvl><Cd>SEPA</Cd></SvcLvl><LclInstrm><Cd>INST</Cd></LclInstrm>";
         assert_eq!(&message[start..start + length], wanted);
     }
-    let mut untouched = [7; 1024];
+    let mut untouched = [7; LEAST_NUMBERS];
     let answer = verdict(Profile::FIRST, NEW, message.as_bytes(), &mut untouched);
     assert!(matches!(answer, Verdict::Refused { number: 3, element: 16, .. }));
-    assert_eq!(untouched, [7; 1024]);
+    assert_eq!(untouched, [7; LEAST_NUMBERS]);
 }
 
 fn text_of(profile: Profile, message: &str, payment: usize, number: usize) -> &str {
@@ -348,6 +349,7 @@ fn usage_counts_and_sums_hold_under_the_instant_profile() {
     assert_eq!(judge_instant(&message), refused(12, 6, 147));
     let message = i1_with(">35.10<", ">35.11<");
     assert_eq!(judge_instant(&message), refused(13, 7, 167));
-    assert_eq!(verdict(Profile::INSTANT, NEW, i1().as_bytes(), &mut [0; 1023]), refused(14, 0, 0));
+    let mut short = [0; LEAST_NUMBERS - 1];
+    assert_eq!(verdict(Profile::INSTANT, NEW, i1().as_bytes(), &mut short), refused(14, 0, 0));
     assert_eq!(judge_instant([b' '; 32_769]), refused(1, 0, 32_768));
 }

@@ -4,6 +4,7 @@ mod common;
 use common::*;
 use independent::values::{fault, Fault};
 use independent::{differing, field, regroup, verdict, Age, Profile, Refusal, Regroup};
+use independent::{LEAST_NUMBERS, NUMBERS_EACH};
 
 const FIRST: Profile = Profile::FIRST;
 const NEW: Age = Age::New;
@@ -12,12 +13,12 @@ const EUR: &[u8] = b"EUR";
 
 #[test]
 fn m1_is_accepted_and_fills_its_rows_of_the_table_alone() {
-    let mut table = vec![7; 1100];
+    let mut table = vec![7; LEAST_NUMBERS + 100];
     assert_eq!(verdict(FIRST, NEW, M1.as_bytes(), &mut table), accepted(1, 2, 3510));
     let text = |at: usize| &M1[table[at] as usize..][..table[at + 1] as usize];
     for (first, end_to_end, iban, name, euros, cents, payment) in [
         (0, "E1", "LU699871234567898765", "A Weis", 12, 50, payments_of_m1()[0]),
-        (16, "E2", "LU415551234567898765", "B Klein", 22, 60, payments_of_m1()[1]),
+        (NUMBERS_EACH, "E2", "LU415551234567898765", "B Klein", 22, 60, payments_of_m1()[1]),
     ] {
         assert_eq!(table[first], 0);
         assert_eq!(text(first + 1), end_to_end);
@@ -28,21 +29,23 @@ fn m1_is_accepted_and_fills_its_rows_of_the_table_alone() {
         assert_eq!(text(first + 11), "LU566541234567890123");
         assert_eq!(table[first + 13..first + 15], [euros, cents]);
         assert_eq!(table[first + 15] as usize, M1.find(payment).unwrap());
+        assert_eq!(table[first + 16..first + NUMBERS_EACH], [0; 4]);
     }
-    assert!(table[32..].iter().all(|number| *number == 7));
+    assert!(table[2 * NUMBERS_EACH..].iter().all(|number| *number == 7));
 }
 
 #[test]
 fn an_absent_ultimate_debtor_is_0_0() {
-    let mut table = [7; 1024];
+    let mut table = [7; LEAST_NUMBERS];
     assert_eq!(verdict(FIRST, NEW, m3().as_bytes(), &mut table), accepted(2, 2, 3510));
     assert_eq!(&m3()[table[7] as usize..][..table[8] as usize], "Study 12");
-    assert_eq!((table[16], table[23], table[24]), (1, 0, 0));
+    let second = &table[NUMBERS_EACH..];
+    assert_eq!((second[0], second[7], second[8]), (1, 0, 0));
 }
 
 #[test]
 fn a_refusal_writes_nothing() {
-    let mut table = [7; 1024];
+    let mut table = [7; LEAST_NUMBERS];
     assert_eq!(
         verdict(FIRST, NEW, m1(">35.10<", ">35.11<").as_bytes(), &mut table),
         refused(13, 7, 167)
@@ -52,7 +55,7 @@ fn a_refusal_writes_nothing() {
 
 #[test]
 fn a_short_table_comes_before_all_else_and_the_size_before_the_form() {
-    for short in [0, 1, 1023] {
+    for short in [0, 1, LEAST_NUMBERS - 1] {
         assert_eq!(verdict(FIRST, NEW, b"", &mut vec![0; short]), refused(14, 0, 0));
         assert_eq!(verdict(FIRST, NEW, &[b'x'; 40_000], &mut vec![0; short]), refused(14, 0, 0));
         assert_eq!(verdict(FIRST, NEW, M1.as_bytes(), &mut vec![0; short]), refused(14, 0, 0));

@@ -5,7 +5,7 @@ use common::edits::recounted;
 use common::*;
 use independent::form::{form, DECLARATION};
 use independent::values::{fault, Fault};
-use independent::{Age, Profile, Verdict};
+use independent::Verdict;
 
 /// Where the bytes, after the root's start tag, fail.
 fn after_root(rest: &str) -> Option<usize> {
@@ -442,18 +442,6 @@ fn largest(payments: &[usize]) -> String {
     let message = recounted(&blocks(payments).replace(">22.60<", ">999999999.99<"));
     assert!(payments.iter().sum::<usize>() == 64 && message.len() <= independent::LONGEST_MESSAGE);
     message
-}
-
-/// The message read in every way: under both profiles, as new and as archived, then also with row 32.
-fn read_each_way(message: &str) -> Vec<(Profile, Age, String)> {
-    let both =
-        [(Profile::FIRST, message.to_string()), (Profile::INSTANT, instant(message, MOMENT))];
-    let each = both.map(|(profile, message)| {
-        let other = not_provided(&message);
-        [(Age::New, message.clone()), (Age::Archived, message), (Age::Archived, other)]
-            .map(|(age, message)| (profile, age, message))
-    });
-    each.concat()
 }
 
 #[test]

@@ -7,7 +7,7 @@ pub mod examples;
 pub mod pairs;
 pub mod written;
 
-use independent::{verdict, Age, Profile, Verdict};
+use independent::{verdict, Age, Profile, Verdict, LEAST_NUMBERS};
 
 pub const ROOT: &str = r#"<Document xmlns="urn:iso:std:iso:20022:tech:xsd:pain.001.001.09">"#;
 
@@ -116,6 +116,18 @@ pub fn not_provided(text: &str) -> String {
     with_agent(text, NOT_PROVIDED)
 }
 
+/// M1 or a neighbour read in every way: under both profiles, as new and as archived, then also with row 32.
+pub fn read_each_way(message: &str) -> Vec<(Profile, Age, String)> {
+    let both =
+        [(Profile::FIRST, message.to_string()), (Profile::INSTANT, instant(message, MOMENT))];
+    let each = both.map(|(profile, message)| {
+        let other = not_provided(&message);
+        [(Age::New, message.clone()), (Age::Archived, message), (Age::Archived, other)]
+            .map(|(age, message)| (profile, age, message))
+    });
+    each.concat()
+}
+
 /// The name of a case that is read so.
 pub fn named(age: Age, name: &str) -> String {
     let how = if age == Age::Archived { "archived, " } else { "" };
@@ -132,7 +144,7 @@ pub fn judge_instant(message: impl AsRef<[u8]>) -> Verdict {
 }
 
 pub fn judge_as(profile: Profile, age: Age, message: impl AsRef<[u8]>) -> Verdict {
-    verdict(profile, age, message.as_ref(), &mut [0; 1024])
+    verdict(profile, age, message.as_ref(), &mut [0; LEAST_NUMBERS])
 }
 
 pub fn list(ordinals: &[u16]) -> Vec<u8> {
