@@ -9,7 +9,8 @@
  * The table must not overlap the message. Lent parts need no alignment. A part of length 0 is empty whatever its pointer is, also a null pointer; a null
  * pointer with any other length is the caller's error.
  *
- * Stack. A verdict takes about 75 KB of stack and a regrouping about 126 KB, whatever the message. The archive calls the C library's memset, and nothing else.
+ * Stack. A verdict takes about 75 KB of stack and a regrouping about 126 KB, whatever the message. The archive calls the C library's memcpy and memset, and nothing
+ * else.
  */
 #ifndef GLOWENZO_H
 #define GLOWENZO_H

@@ -17,7 +17,7 @@ use Rattle.paper.specs.Accepted.{All, Accepted}
 use Rattle.paper.specs.Regrouping.{RegroupingAnswer, regrouping, Regroups, At}
 use Rattle.paper.specs.Table.{payment-numbers, numbers-of, over, written, table-after}
 use Rattle.paper.specs.Host.{profile-numbered, four-bytes, numbers-held, bytes-after}
-use Rattle.paper.specs.Order.{Stage, for-table, order, numbers, StageHolds, FirstNot, this-one, a-later-one}
+use Rattle.paper.specs.Order.{for-table, order, numbers, StageHolds, FirstNot, this-one}
 use Rattle.paper_acceptance.proofs.Proper.{numbered-proper}
 use Rattle.paper_acceptance.proofs.Outcome.{accepted-with-table, accepted-alone}
 use Rattle.paper_acceptance.proofs.Accepts.{accepts-with-table}
@@ -128,11 +128,6 @@ pub left-stays : {profile archived : ℕ} {message before after : List ℕ} {r :
 left-stays {profile} {archived} {message} {before} a =
     ap left-over (a .table-is) ∙ left-of-outcome (outcome (profile-numbered profile archived) (numbers-held before) message) before (room-for-all profile archived message before (outcome (profile-numbered profile archived) (numbers-held before) message) refl)
 
--- the first stage that does not hold does not hold
-not-first : {H : Stage → Type 0} {l : List Stage} {stage : Stage} → FirstNot H l stage → H stage → ⊥
-not-first (this-one n) h = n h
-not-first (a-later-one g f) h = not-first f h
-
 -- The six numbers. Of a message: number 0 exactly when the table is long enough and the rules hold; counts of zero on every refusal; no element and no offset where it is
 -- accepted.
 module _ {profile archived : ℕ} {message before after : List ℕ} {r : OfMessage} (a : HostVerdictPromise profile archived message before r after) where
@@ -172,7 +167,7 @@ module _ {profile archived : ℕ} {message before after : List ℕ} {r : OfMessa
       short : (b : Bool) → ltb (length before) (4 * least-table) ≡ b → FirstNot (StageHolds (profile-numbered profile archived) (numbers-held before) message) order for-table
           → length before < 4 * least-table
       short true e f = ltb-true (length before) (4 * least-table) e
-      short false e f = absurd (not-first f (omega (arith, ltb-false (length before) (4 * least-table) e)))
+      short false e f = absurd (the-order.first-fails (StageHolds (profile-numbered profile archived) (numbers-held before) message) f (omega (arith, ltb-false (length before) (4 * least-table) e)))
 
   -- On acceptance payment k's numbers, as the bytes make them, begin at number 20k.
   pub accepted-begins : r .number ≡ 0 → (root : Element) × (outcome (profile-numbered profile archived) (numbers-held before) message ≡ accepted-with root)

@@ -73,7 +73,7 @@ module _ (H : Stage → Type 0) where
   none-first (all-more h k) (this-one n) = n h
   none-first (all-more h k) (a-later-one i f) = none-first k f
 
-  first-fails : {stages : List Stage} {a : Stage} → FirstNot H stages a → H a → ⊥
+  pub first-fails : {stages : List Stage} {a : Stage} → FirstNot H stages a → H a → ⊥
   first-fails (this-one n) h = n h
   first-fails (a-later-one k f) h = first-fails f h
 
