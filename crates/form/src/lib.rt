@@ -1,6 +1,8 @@
 // The written form (docs/RULES.md, 2; refusal 2): whether a message is of the form, and if not, the first byte that cannot be; and the tree of a message of the
 // form, laid out as numbers in a lent buffer (crates/tree/specs/Laid.antt). One pass over the message, in place. Elements within elements are read by
 // recursion, which the depth bounds; siblings and bytes are read by loops. The numbers of an element are put down behind its end tag.
+#![tactic(auto)]
+
 ghost use Rattle.std.specs.Prelude.{◌≡◌, false, ◌+◌, ◌*◌, ◌%◌, ◌≤◌, ◌<◌, length, get_or};
 ghost use Rattle.paper.specs.Computed.Reading.{opening, before};
 ghost use Rattle.paper.specs.Bytes.{white};
@@ -16,21 +18,21 @@ use form_scans::Scan;
 use tree::Tree;
 
 // The answer: of the form, or refused at an offset. `FormPromise` tells what each says of the message and of the buffer.
-#[derive(Drop)]
+#[derive(Clone, Copy)]
 pub enum Form {
     OfTheForm,
     RefusedAt(usize),
 }
 
 // An element was read up to an offset, and the next one has this number; or the message stops.
-#[derive(Drop)]
+#[derive(Clone, Copy)]
 enum Read {
     To { at: usize, next: usize },
     StopsAt(usize),
 }
 
 // What an element holds was read up to its end tag: with the next element's number, and what is known of its text; or the message stops.
-#[derive(Drop)]
+#[derive(Clone, Copy)]
 enum Held {
     To {
         close: usize,

@@ -1,5 +1,7 @@
 // The number of a name: that of the lowest row that has it, 0 for a name that no row has (specs/Names.antt). A name's length, first and sixth byte tell its
 // slot, in which no two names of rows meet; one comparison with the name that stands there decides.
+#![tactic(auto)]
+
 ghost use Rattle.std.specs.Prelude.{◌≡◌, ◌+◌, ◌<◌, ◌≤◌, length, take, drop};
 ghost use Rattle.paper.specs.Bytes.{same};
 ghost use Rattle.form_names.specs.Names.{name_number, slot_of, NamesAre};

@@ -1,5 +1,7 @@
 // The ranks of bytes (specs/Ranks.antt), so ordered that each class of bytes is those from one rank to another: 0 no text, 1 text, 2 tab and line ends, 3 space,
 // 4 punctuation of the characters of values, 5 digit, 6 small letter, 7 capital.
+#![tactic(auto)]
+
 ghost use Rattle.std.specs.Prelude.{◌≡◌};
 ghost use Rattle.paper.specs.Bytes.{white};
 ghost use Rattle.paper.specs.Values.{lies_from};

@@ -1,4 +1,6 @@
 // Parts of the written form, read from an offset on: white space, names, text, fixed bytes, tags.
+#![tactic(auto)]
+
 ghost use Rattle.std.specs.Prelude.{◌≡◌, Bool, true, false, List, ℕ, ◌+◌, ◌≤◌, ◌<◌, length, get_or};
 ghost use Rattle.paper.specs.Bytes.{bytes, letter_or_digit};
 ghost use Rattle.paper.specs.Form.{end_tag};
@@ -10,7 +12,7 @@ ghost use Rattle.form_scans.specs.Scans.{Word, Opened, Ranked, IsClass, Run, Whi
 use form_ranks::Ranks;
 
 // Some part of the message was read to an offset, or stops at one.
-#[derive(Drop)]
+#[derive(Clone, Copy)]
 pub enum Scan {
     To(usize),
     StopsAt(usize),

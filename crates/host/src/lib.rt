@@ -1,4 +1,6 @@
 // The two functions that the payment host calls, over lent bytes; include/glowenzo.h says them to C.
+#![tactic(auto)]
+
 ghost use Rattle.std.specs.Prelude.{◌≡◌, ◌++◌, ◌+◌, ◌*◌, ◌≤◌, length, take, drop};
 ghost use Rattle.paper.specs.Bytes.{each};
 ghost use Rattle.paper.specs.Host.{profile_numbered, four_bytes};

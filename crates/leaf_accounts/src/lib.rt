@@ -1,35 +1,58 @@
-// IBANs (row 28, ISO 13616). Each sentence of the rule stands above the line that asks for it; crates/leaf_remainders reads the letters and divides. In a shape `A` is any
-// capital, `0` any digit, `X` either of them.
-ghost use Rattle.std.specs.Prelude.{◌≡◌};
-ghost use Rattle.paper.specs.Values.{iban};
+// IBANs. A text is a part of the message.
+#![tactic(auto)]
 
+ghost use Rattle.std.specs.Prelude.{◌≡◌, ◌<◌, ◌+◌, ◌*◌};
+ghost use Rattle.paper.specs.Values.{iban};
+ghost use Rattle.leaf_accounts.specs.Remainders.{read_one, remainder_after};
+
+// One character more behind a number: a digit as itself, A to Z as 10 to 35.
+fn read_one(n: u64, b: u8) -> u64
+    requires { n < 1000000000 }
+    ensures { (result ≡ read_one n b) × (result < n * 100 + 300) }
+{
+    if leaf_texts::digit(b) {
+        return n * 10 + leaf_numbers::above(b'0', b);
+    }
+    n * 100 + (leaf_numbers::above(b'A', b) + 10)
+}
+
+// The remainder by 97, taken over the rest of the account text, four characters at a time.
+fn remainder(so_far: u64, s: &[u8]) -> u64
+    requires { so_far < 97 }
+    ensures { (result ≡ remainder_after so_far s.now) × (result < 97) }
+{
+    if s.len() == 0 {
+        return so_far;
+    }
+    if s.len() < 4 {
+        return remainder(read_one(so_far, s[0]) % 97, &s[1..]);
+    }
+    let two = read_one(read_one(so_far, s[0]), s[1]);
+    let four = read_one(read_one(two, s[2]), s[3]);
+    remainder(four % 97, &s[4..])
+}
+
+// Row 28: two capitals, two check digits from 02 to 98, capitals or digits; the whole length by country; four characters moved to the end, the
+// number leaves 1 when divided by 97.
 pub fn iban(s: &[u8]) -> bool
     ensures { result ≡ iban s.now }
 {
-    // (Fewer than four characters are no IBAN.)
     if s.len() < 4 {
         return false;
     }
-    let first_four = &s[..4];
+    let head = &s[..4];
     let rest = &s[4..];
-    // Two capitals, two check digits
-    if !leaf_texts::shaped(b"AA00", first_four) {
+    if !leaf_texts::shaped(b"AA00", head) {
         return false;
     }
-    // from 02 to 98,
-    let check_digits = &s[2..4];
-    if !leaf_numbers::lies_from(2, 98, leaf_numbers::number(check_digits)) {
+    if !leaf_numbers::lies_from(2, 98, leaf_numbers::number(&s[2..4])) {
         return false;
     }
-    // capitals or digits.
     if !leaf_texts::every(b'X', rest) {
         return false;
     }
-    // Whole length by country; another country is refused.
-    let country = &s[..2];
-    if !leaf_countries::country(country, s.len()) {
+    if !leaf_countries::country(&s[..2], s.len()) {
         return false;
     }
-    // First four characters moved to the end (the rest is the front then, and these four the end), A to Z read as 10 to 35, the number leaves 1 when divided by 97.
-    leaf_remainders::modulo_97(rest, first_four) == 1
+    remainder(remainder(0, rest), head) == 1
 }

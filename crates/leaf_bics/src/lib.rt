@@ -1,4 +1,6 @@
 // BICs. A text is a part of the message.
+#![tactic(auto)]
+
 ghost use Rattle.std.specs.Prelude.{◌≡◌};
 ghost use Rattle.paper.specs.Values.{bic};
 

@@ -1,4 +1,6 @@
 // The character set of values. A text is a part of the message.
+#![tactic(auto)]
+
 ghost use Rattle.std.specs.Prelude.{◌≡◌};
 ghost use Rattle.paper.specs.Bytes.{value_character, is, every};
 ghost use Rattle.paper.specs.Refusals.{first_not};

@@ -1,4 +1,6 @@
 // The countries of IBANs, each with the whole length of its accounts.
+#![tactic(auto)]
+
 ghost use Rattle.std.specs.Prelude.{◌≡◌};
 ghost use Rattle.paper.specs.Values.{countries};
 ghost use Rattle.paper.specs.Refusals.{among_texts};

@@ -1,4 +1,6 @@
 // Days and times. A text is a part of the message.
+#![tactic(auto)]
+
 ghost use Rattle.std.specs.Prelude.{◌≡◌, ◌||◌};
 ghost use Rattle.paper.specs.Values.{days_in, true_day, date, date_and_time, shaped, zone, date_time_zone};
 

@@ -1,4 +1,6 @@
 // Ids, by the slash rule, and purpose codes. A text is a part of the message.
+#![tactic(auto)]
+
 ghost use Rattle.std.specs.Prelude.{◌≡◌, ◌&&◌, length, get_or, ◌-◌};
 ghost use Rattle.paper.specs.Bytes.{is};
 ghost use Rattle.paper.specs.Values.{two_slashes, id, purpose};

@@ -1,10 +1,12 @@
 // Numbers that digits spell, and counts. A text is a part of the message.
+#![tactic(auto)]
+
 ghost use Rattle.std.specs.Prelude.{◌≡◌, ◌-◌, ◌<◌, ◌*◌};
 ghost use Rattle.paper.specs.Values.{lies_from, number, count, digits};
 ghost use Rattle.leaf_numbers.specs.Readings.{Spells, as_count};
 
 // What a text says as a number.
-#[derive(Drop)]
+#[derive(Clone, Copy)]
 pub enum Reading {
     Not,
     Number(u64),

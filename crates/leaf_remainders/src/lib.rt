@@ -1,5 +1,7 @@
 // The number that characters spell, modulo 97 (ISO 13616; ISO 7064, MOD 97-10). It is too long to be held, so it is divided as on paper: one character after another, with
 // nothing held but the remainder so far and the next digits behind it.
+#![tactic(auto)]
+
 ghost use Rattle.std.specs.Prelude.{◌≡◌, [], ◌∷◌, ◌++◌, ◌+◌, ◌*◌, ◌%◌, ◌<◌, ◌≤◌};
 ghost use Rattle.paper.specs.Values.{read_after};
 ghost use Rattle.leaf_remainders.specs.Remainders.{modulo_97};

@@ -1,4 +1,6 @@
 // Texts compared with shapes and with one another. A text is a part of the message.
+#![tactic(auto)]
+
 ghost use Rattle.std.specs.Prelude.{◌≡◌, true, ◌&&◌, ◌||◌, leb, ◌≤◌, length, get_or};
 ghost use Rattle.paper.specs.Bytes.{capital, digit, capital_or_digit, every, same};
 ghost use Rattle.leaf_texts.specs.Shapes.{fits_byte, pairwise, FourSame};

@@ -1,4 +1,6 @@
 // What a value may be: refusals 6, 7 and 8 for one leaf.
+#![tactic(auto)]
+
 ghost use Rattle.std.specs.Prelude.{◌≡◌, ◌&&◌, [], ◌∷◌, eqb};
 ghost use Rattle.paper.specs.Bytes.{if◌then◌else◌, bytes, same, value_character, Every};
 ghost use Rattle.paper.specs.Values.{among, right_for, amount};
@@ -6,7 +8,7 @@ ghost use Rattle.paper.specs.Refusals.{first_not};
 ghost use Rattle.leaf_values.specs.Judgements.{Judges};
 
 // What is said of a leaf's text; specs/Judgements.antt gives the paper's refusal for each case.
-#[derive(Drop)]
+#[derive(Clone, Copy)]
 pub enum Judgement {
     Fine,
     EmptyOrTooLong,

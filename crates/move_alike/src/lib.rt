@@ -1,4 +1,6 @@
 // Elements of two payments that may be absent, compared: by their texts, by the text that absence means, in cents; and remittance (field 17).
+#![tactic(auto)]
+
 ghost use Rattle.std.specs.Prelude.{◌≡◌, List, ℕ};
 ghost use Rattle.std.proofs.Math.Option.{Option, none};
 ghost use Rattle.paper.specs.Form.{Element};

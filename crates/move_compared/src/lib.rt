@@ -1,4 +1,6 @@
 // The lowest of the seventeen fields in which two payments differ.
+#![tactic(auto)]
+
 ghost use Rattle.std.specs.Prelude.{◌≡◌, ◌≤◌};
 ghost use Rattle.paper.specs.Payments.{Payment};
 ghost use Rattle.paper.specs.Fields.{same_value, values_of, differ_from};
@@ -10,7 +12,7 @@ use tree_fields::Routes;
 use tree_routes::Children;
 
 // Whether two payments differ, and the lowest field in which they do.
-#[derive(Drop)]
+#[derive(Clone, Copy)]
 pub enum Field {
     Same,
     Differs(usize),

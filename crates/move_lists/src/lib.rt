@@ -1,11 +1,13 @@
 // The regrouping list: how many ordinals it has, and which.
+#![tactic(auto)]
+
 ghost use Rattle.std.specs.Prelude.{◌≡◌, List, ℕ, ◌+◌, ◌*◌, ◌<◌, get_or};
 ghost use Rattle.std.proofs.Math.Option.{some};
 ghost use Rattle.paper.specs.Regrouping.{ordinals_of};
 ghost use Rattle.move_lists.specs.Lists.{how_many};
 
 // What the list's file holds.
-#[derive(Drop)]
+#[derive(Clone, Copy)]
 pub enum Listed {
     NotOfTheForm,
     Ordinals(usize),

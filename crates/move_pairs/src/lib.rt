@@ -1,4 +1,6 @@
 // The walk over the pairs of payments that the regrouping list names.
+#![tactic(auto)]
+
 ghost use Rattle.std.specs.Prelude.{◌≡◌, List, [], ℕ, ◌<◌, length};
 ghost use Rattle.std.proofs.Math.Option.{some};
 ghost use Rattle.paper.specs.Form.{Element};
@@ -16,7 +18,7 @@ use tree_fields::Routes;
 use tree_routes::Children;
 
 // What is said of the pairs of payments that a list names.
-#[derive(Drop)]
+#[derive(Clone, Copy)]
 pub enum Paired {
     Accepted,
     OrdinalTooLarge { k: usize },
@@ -37,7 +39,7 @@ fn mark(marks: &mut [u8; 64], o: usize) -> bool
 }
 
 // A payment in its block: its own element, its block's element, and the first children of its block.
-#[derive(Drop)]
+#[derive(Clone, Copy)]
 struct InBlock {
     own: usize,
     block: usize,

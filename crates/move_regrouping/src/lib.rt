@@ -1,4 +1,6 @@
 // Whether one message regroups another by a list, for any two messages and any list.
+#![tactic(auto)]
+
 ghost use Rattle.std.specs.Prelude.{◌≡◌};
 ghost use Rattle.paper.specs.Form.{Element};
 ghost use Rattle.paper.specs.Rows.{as_new};

@@ -80,7 +80,7 @@ same_differs v w n = go (same v w) refl
 -- `All` of a list and its members
 pub all_member : {A : Type 0} {P : A → Type 0} {a : A} {l : List A} → All P l → Memᴰ a l → P a
 all_member {P = P} (all_more p h) m = ⊎_elim (λ e. subst P (sym e) p) (λ n. all_member h n) (Memᴰ.cases_cons m)
-all_member all_none m = absurd (Memᴰ.not_nil m)
+all_member all_none m = absurd (Memᴰ.not-nil m)
 
 pub all_map : {A : Type 0} {P Q : A → Type 0} {l : List A} → ((a : A) → P a → Q a) → All P l → All Q l
 all_map f all_none = all_none

@@ -1,4 +1,5 @@
 // The rules (docs/RULES.md) as definitions (specs/). What callers name and the enums of the answers stand here; specs/Answers.antt gives the paper's profile, and its numbers for each of their cases.
+#![tactic(auto)]
 
 // Sizes (specs/Sizes.antt): the bytes of the largest message, the numbers of a payment and of the least table, the most blocks and payments.
 pub const LARGEST_MESSAGE: usize = 32768;
@@ -12,14 +13,14 @@ pub const MOST_BLOCKS: usize = 16;
 pub const MOST_PAYMENTS: usize = 64;
 
 // The profile that a caller names: with the instant rows or with the first, for an archived message or for a new one.
-#[derive(Drop)]
+#[derive(Clone, Copy)]
 pub struct Profile {
     pub instant: bool,
     pub archived: bool,
 }
 
 // Why a message is refused.
-#[derive(Drop)]
+#[derive(Clone, Copy)]
 pub enum Fault {
     TableTooShort,
     MessageTooLong,
@@ -39,14 +40,14 @@ pub enum Fault {
 }
 
 // What a stage of checks finds.
-#[derive(Drop)]
+#[derive(Clone, Copy)]
 pub enum Finding {
     Nothing,
     Refused(Fault),
 }
 
 // What the reader says of a message.
-#[derive(Drop)]
+#[derive(Clone, Copy)]
 pub enum Verdict {
     Accepted {
         blocks: usize,
@@ -57,7 +58,7 @@ pub enum Verdict {
 }
 
 // What is said of two messages and a list.
-#[derive(Drop)]
+#[derive(Clone, Copy)]
 pub enum Regrouping {
     Accepted,
     FirstRefused(Fault),

@@ -153,7 +153,7 @@ named_in_skips (j ∷ js) {ks} {k} m h = rw (apart_first h (Memᴰ.append_right 
 
 named_in_finds : (js ks : List ℕ) {k : ℕ} → Memᴰ k js → Apart (js ++ ks) → named_in js (name k) ≡ some k
 unfolding named_in
-named_in_finds [] ks m h = absurd (Memᴰ.not_nil m)
+named_in_finds [] ks m h = absurd (Memᴰ.not-nil m)
 named_in_finds (j ∷ js) ks {k} m h = ⊎_elim here (λ n. further_on n (named_in_finds js ks n (apart_rest (j ∷ []) h))) (Memᴰ.cases_cons m)
   where
     here : k ≡ j → (if same (name k) (name j) then some j else named_in js (name k)) ≡ some k
@@ -239,7 +239,7 @@ OneOf choice ks = (k : ℕ) × Memᴰ k choice × Memᴰ k ks
 
 among_choice : (choice : List ℕ) {k : ℕ} {ks : List ℕ} → all_among choice ks ≡ true → Memᴰ k ks → Memᴰ k choice
 unfolding all_among
-among_choice choice {ks = []} e m = absurd (Memᴰ.not_nil m)
+among_choice choice {ks = []} e m = absurd (Memᴰ.not-nil m)
 among_choice choice {k} {ks = j ∷ ks} e m =
     ⊎_elim (λ q. subst (λ (i : ℕ). Memᴰ i choice) (sym q) (among_says j choice (both_left (among j choice) _ e)))
     (λ n. among_choice choice (both_right (among j choice) _ e) n) (Memᴰ.cases_cons m)

@@ -67,14 +67,14 @@ leaf_route profile parent k (j ∷ js) =
 
 -- rows of one name are one row
 apart_same : {ks : List ℕ} {j k : ℕ} → Apart ks → Memᴰ j ks → Memᴰ k ks → name j ≡ name k → j ≡ k
-apart_same apart_none m n e = absurd (Memᴰ.not_nil m)
+apart_same apart_none m n e = absurd (Memᴰ.not-nil m)
 apart_same {j = j} {k = k} (apart_more {k = i} a h) m n e =
     ⊎_elim (λ p. ⊎_elim (λ q. p ∙ sym q) (λ q. absurd (all_member a q (ap name (sym p) ∙ e))) (Memᴰ.cases_cons n))
     (λ p. ⊎_elim (λ q. absurd (all_member a p (ap name (sym q) ∙ sym e))) (λ q. apart_same h p q e) (Memᴰ.cases_cons n)) (Memᴰ.cases_cons m)
 
 -- the first of some elements
 some_first : (l : List Element) {u : Element} → Memᴰ u l → There (elim l as (λ _. Option Element) [ [] ↦ none | v ∷ vs ↦ some v ])
-some_first [] m = absurd (Memᴰ.not_nil m)
+some_first [] m = absurd (Memᴰ.not-nil m)
 some_first (v ∷ vs) m = record { it = v; is_it = refl }
 
 module _ (profile : Profile) (Right : (holder : Option Element) (parent : ℕ) → Row → Element → Type 0) where
@@ -123,7 +123,7 @@ module _ (profile : Profile) (Right : (holder : Option Element) (parent : ℕ) �
   -- In a conforming group, of some rows of which one must be there, one has a child that is found.
   named_there : (ts : Elements) (holder : Element) (row k : ℕ) (ks : List ℕ) → Memᴰ k ks → Conform profile Right ts holder row ks → (u : Element) × Memᴰ u (all_named k (listed ts))
   unfolding all_named listed Conforms
-  named_there []ᵉ holder row k ks m c = absurd (Memᴰ.not_nil (subst (λ (l : List ℕ). Memᴰ k l) c m))
+  named_there []ᵉ holder row k ks m c = absurd (Memᴰ.not-nil (subst (λ (l : List ℕ). Memᴰ k l) c m))
   named_there (t ∷ᵉ ts) holder row k [] m c = absurd c
   named_there (t ∷ᵉ ts) holder row k (i ∷ ks) m c = ⊎_elim here (λ n. further_on (same (head_of t).name (name k)) (named_there ts holder row k ks n c.2)) (Memᴰ.cases_cons m)
     where
@@ -148,7 +148,7 @@ module _ (profile : Profile) (Right : (holder : Option Element) (parent : ℕ) �
             | elements places ↦ Right holder parent r (holding_text h w) × Every white w × Arranged places []
           ]) → ⊥
       go (text longest) e c = let z : ◌≡◌ {A = ℕ} 0 1 = cc in omega (arith, z)
-      go (elements places) e c = Memᴰ.not_nil (one_there choice e c.2).2
+      go (elements places) e c = Memᴰ.not-nil (one_there choice e c.2).2
   choice_there (holding_elements h ts) holder parent r choice e c = go r.holds e c
     where
       go : (holds : Contents) → ◌≡◌ {A = Bool} (elim holds [ text longest ↦ false | elements places ↦ must choice places ]) true

@@ -286,7 +286,7 @@ pub ids_apart : (root : Element) → ids_refusal root ≡ none ↔ IdsApart root
 unfolding ids_refusal
 ids_apart root = (
   (λ e. let n = ids_new [] (blocks root) e in record { ids = n.its_ids; has_its_own = n.has_its_own; distinct = n.new.distinct }),
-  (λ i. new_ids [] i.has_its_own (record { distinct = i.distinct; not_earlier = all_from (λ w m n. Memᴰ.not_nil n) })),
+  (λ i. new_ids [] i.has_its_own (record { distinct = i.distinct; not_earlier = all_from (λ w m n. Memᴰ.not-nil n) })),
 )
 
 -- amounts that stand there add up to what is computed

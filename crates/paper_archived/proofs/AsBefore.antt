@@ -205,7 +205,7 @@ module _ (profile : Profile) (one_stays : Memᴰ 1 profile.withdrawn → ⊥) wh
 pub archived_alone_as_before : (profile : Profile) (s : List ℕ) → outcome_alone (as_archived profile) s ≡ before.outcome_alone profile.rows s
 unfolding as_archived for_archived NoneWithdrawn
 archived_alone_as_before profile s =
-    alone_same (as_archived profile) (λ m. Memᴰ.not_nil m) s (λ root form k m. absurd (Memᴰ.not_nil m))
+    alone_same (as_archived profile) (λ m. Memᴰ.not-nil m) s (λ root form k m. absurd (Memᴰ.not-nil m))
 
 pub archived_as_before : (profile : Profile) (n : ℕ) (s : List ℕ) → outcome (as_archived profile) n s ≡ before.outcome profile.rows n s
 unfolding outcome before.outcome

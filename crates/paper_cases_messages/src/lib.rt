@@ -1,1 +1,3 @@
 // Messages and regroupings whose answers are computed from the definitions, under one theorem for each list (specs/, proofs/Proved.antt).
+#![tactic(auto)]
+

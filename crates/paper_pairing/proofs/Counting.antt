@@ -64,7 +64,7 @@ down_below i o n h k d = go (ltb i o) refl
     go false e = let l = ltb-false i o e in omega (arith, l, d)
 
 member_map : {f : ℕ → ℕ} {o : ℕ} {os : List ℕ} → Memᴰ o (map f os) → (p : ℕ) × (o ≡ f p) × Memᴰ p os
-member_map {os = []} m = absurd (Memᴰ.not_nil m)
+member_map {os = []} m = absurd (Memᴰ.not-nil m)
 member_map {f} {o} {os = p ∷ os} m =
     ⊎_elim (λ e. (p, e, Memᴰ.head refl)) (λ n. let r = member_map {f = f} {os = os} n in (r.0, r.1, Memᴰ.tail r.2)) (Memᴰ.cases_cons m)
 

@@ -105,7 +105,7 @@ seventeen p = refl
 
 -- lists that grow at their end
 distinct_last : {ks : List ℕ} {o : ℕ} → Distinct ks → (Memᴰ o ks → ⊥) → Distinct (ks ++ (o ∷ []))
-distinct_last distinct_none n = distinct_more (λ m. Memᴰ.not_nil m) distinct_none
+distinct_last distinct_none n = distinct_more (λ m. Memᴰ.not-nil m) distinct_none
 distinct_last {o = o} (distinct_more {a = k} {rest = ks} m d) n =
     distinct_more (λ q. ⊎_elim m (λ q. n (Memᴰ.head (sym (Memᴰ.eq_of_singleton q)))) (Memᴰ.append_cases ks q)) (distinct_last d (λ q. n (Memᴰ.tail q)))
 
@@ -131,13 +131,13 @@ back_in (x ∷ done) named m =
 
 in_back : (done named : List ℕ) {o : ℕ} → Memᴰ o done ⊎ Memᴰ o named → Memᴰ o (back done named)
 unfolding back
-in_back [] named m = ⊎_elim (λ q. absurd (Memᴰ.not_nil q)) (λ q. q) m
+in_back [] named m = ⊎_elim (λ q. absurd (Memᴰ.not-nil q)) (λ q. q) m
 in_back (x ∷ done) named m =
     in_back done (x ∷ named)
     (⊎_elim (λ q. ⊎_elim (λ e. inr (Memᴰ.head e)) (λ q. inl q) (Memᴰ.cases_cons q)) (λ q. inr (Memᴰ.tail q)) m)
 
 only_done : {done : List ℕ} {o : ℕ} → Memᴰ o (back done []) → Memᴰ o done
-only_done {done} m = ⊎_elim (λ q. q) (λ q. absurd (Memᴰ.not_nil q)) (back_in done [] m)
+only_done {done} m = ⊎_elim (λ q. q) (λ q. absurd (Memᴰ.not-nil q)) (back_in done [] m)
 
 -- The walk passes over pairs that are as they should be.
 passes_over : (first : List (List Value)) (k : ℕ) (named done os : List ℕ) (earlier ps : List (List Value)) → Rest first named done earlier
@@ -352,7 +352,7 @@ module _ (profile : Profile) (proper : Proper profile) (first second file : List
         record {
           within = subst (λ (n : ℕ). All (λ o. o < n) u.before) (sym (length-map (ones u.comparable) values_of)) (each_within (ones u.comparable) u.paired);
           once = u.once;
-          not_before = all_from (λ o m n. Memᴰ.not_nil n);
+          not_before = all_from (λ o m n. Memᴰ.not-nil n);
           names = each_named (ones u.comparable) u.paired;
         }
 

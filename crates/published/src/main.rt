@@ -1,6 +1,8 @@
 // Runs the verdict and the regrouping over what the source documents print, and over M1 to M3 and messages of the instant scheme, and writes two lines for each example: what
 // the first profile gives, and the instant one. In the four files a case is `V` with name and message, or `R` with name, first, second and list, and a line feed. A case that
 // begins with `v` or `r` has two lines more: what they give where the message, or the first message, is archived.
+#![tactic(auto)]
+
 ghost use Rattle.std.specs.Prelude.{◌<◌, length};
 
 use paper::Profile;

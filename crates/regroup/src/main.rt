@@ -1,5 +1,7 @@
 // Whether `second.xml` regroups `first.xml` by `list.rgl`, all three in the current folder; one that can't be opened counts as empty. Started with the word `instant` it reads
 // both messages in the instant profile, with the word `archived` the first as an archived one.
+#![tactic(auto)]
+
 ghost use Rattle.io.specs.Counts.{IsPrefixLen};
 
 use paper::Profile;

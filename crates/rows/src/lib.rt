@@ -1,5 +1,7 @@
 // The walk of refusals 3 and 4 over the laid-out tree of a message, and the same walk with the judgement of 6 to 8 and 28 at each element. The rows are a profile in
 // numbers (crates/rows_places/specs/Numbers.antt); every function but `judging_of` and `rows_refusal` is for any such profile.
+#![tactic(auto)]
+
 ghost use Rattle.std.specs.Prelude.{◌<◌, ◌≡◌};
 ghost use Rattle.paper.specs.Answers.{refusal_found};
 ghost use Rattle.rows.specs.Walk.{JudgesFor, WalkPromise, Walks, WalksAll, unless_found};

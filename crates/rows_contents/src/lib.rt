@@ -1,4 +1,6 @@
 // What is judged of an element before what it holds, and what an element holds that has no elements in it: white space in a group, and the judgement of 6 to 8 at a leaf.
+#![tactic(auto)]
+
 ghost use Rattle.std.specs.Prelude.{◌≡◌, [], ◌∷◌, ℕ, ◌+◌, ◌≤◌, ◌<◌, length};
 ghost use Rattle.paper.specs.Bytes.{if◌then◌else◌, white, Every};
 ghost use Rattle.paper.specs.Form.{Head};
@@ -15,7 +17,7 @@ use rows_places::{Lacks, Places, Rows};
 use tree::Tree;
 
 // What a walk judges of each element: nothing, for 3 and 4; 6 to 8, in an archived message; or 6 to 8 and 28, in a new one, of which a row is withdrawn.
-#[derive(Drop)]
+#[derive(Clone, Copy)]
 pub enum Judging {
     Rows,
     ArchivedValues,

@@ -1,4 +1,6 @@
 // Which place of a group a child takes, and what is missing before it, over a profile in numbers (specs/Numbers.antt).
+#![tactic(auto)]
+
 ghost use Rattle.std.specs.Prelude.{◌≡◌, true, List, ℕ, ◌+◌, ◌<◌, eqb};
 ghost use Rattle.paper.specs.Form.{Head};
 ghost use Rattle.paper.specs.Rows.{Profile};
@@ -20,21 +22,21 @@ pub type Rows = [[u16; 6]; ENTRIES];
 pub type Places = [[u16; 3]; PLACES];
 
 // The first row that is missing.
-#[derive(Drop)]
+#[derive(Clone, Copy)]
 pub enum Lacks {
     Nothing,
     Row(usize),
 }
 
 // The entry that takes a place.
-#[derive(Drop)]
+#[derive(Clone, Copy)]
 enum Taker {
     Nobody,
     Entry(u16),
 }
 
 // The place that a child takes, and as which entry.
-#[derive(Drop)]
+#[derive(Clone, Copy)]
 enum Standing {
     Nowhere,
     At { place: u16, entry: u16 },
@@ -42,7 +44,7 @@ enum Standing {
 
 // What comes of a child: it is never allowed there, or comes too early for a missing row, or is found as an entry, with the places that are left then: those from
 // `left` on, where one of the `plus` at `left` may have been seen.
-#[derive(Drop)]
+#[derive(Clone, Copy)]
 pub enum Sought {
     Never,
     Early(usize),

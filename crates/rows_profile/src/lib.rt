@@ -1,4 +1,6 @@
 // The rows of both profiles as numbers, laid out as crates/rows_places/specs/Numbers.antt says. A const table is made anew wherever it is used: make it once, and lend it.
+#![tactic(auto)]
+
 ghost use Rattle.std.specs.Prelude.{◌≡◌};
 ghost use Rattle.rows_profile.specs.Profile.{entries_of, all_places};
 

@@ -1,4 +1,6 @@
 // Refusals 12 and 13: counts and sums, of the header and of each block.
+#![tactic(auto)]
+
 ghost use Rattle.std.specs.Prelude.{◌≡◌, List, ◌++◌, map, ℕ, ◌+◌, ◌≤◌, length, eqb};
 ghost use Rattle.std.proofs.Math.Option.{Option};
 ghost use Rattle.paper.specs.Form.{Element};

@@ -1,4 +1,6 @@
 // Refusal 11: a block id that an earlier block has.
+#![tactic(auto)]
+
 ghost use Rattle.std.specs.Prelude.{◌≡◌, List, [], true, ◌<◌, ◌≤◌, length, get_or};
 ghost use Rattle.paper.specs.Form.{Element};
 ghost use Rattle.paper.specs.Payments.{text_of, child, blocks as all_blocks};

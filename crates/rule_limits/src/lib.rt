@@ -1,4 +1,6 @@
 // Refusal 5, and where blocks and payments stand in the laid-out tree of a message: their order, numbers in a buffer whose layout this crate alone knows.
+#![tactic(auto)]
+
 ghost use Rattle.std.specs.Prelude.{◌≡◌, List, ℕ, ◌+◌, ◌*◌, ◌≤◌, ◌<◌, length, get_or, set};
 ghost use Rattle.std.proofs.Math.Option.{some};
 ghost use Rattle.paper.specs.Form.{Element};
@@ -15,7 +17,7 @@ pub const NUMBERS: usize = paper::MOST_BLOCKS + 3 * paper::MOST_PAYMENTS;
 pub type Order = [u16; NUMBERS];
 
 // Where a payment stands: its own element and its block's element; and its block's number.
-#[derive(Drop)]
+#[derive(Clone, Copy)]
 pub struct PaymentAt {
     pub own: usize,
     pub block: usize,
@@ -23,7 +25,7 @@ pub struct PaymentAt {
 }
 
 // What refusal 5 says: nothing is in excess, with these numbers of blocks and payments; or the first excess element's row and offset.
-#[derive(Drop)]
+#[derive(Clone, Copy)]
 pub enum Limits {
     Within { blocks: usize, payments: usize },
     Excess { element: usize, offset: usize },

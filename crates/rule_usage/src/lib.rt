@@ -1,4 +1,6 @@
 // Refusals 9 and 10: rows 16, 36 and 34 in a payment and in its block.
+#![tactic(auto)]
+
 ghost use Rattle.std.specs.Prelude.{◌≡◌, List, true, ℕ, ◌≤◌, length};
 ghost use Rattle.paper.specs.Form.{Element};
 ghost use Rattle.paper.specs.Payments.{Payment, payments as all_payments};

@@ -2,6 +2,8 @@
 // Messages of the second file, and the first ones of its regroupings, are archived.
 // A case is `F` with name, profile (1 is the instant one), payment, first and last field and message, which asks for each of these fields; or `D` with name, profile, first, second
 // and list, which asks for the second regrouped from the first and for the first regrouped from the second; and a line feed.
+#![tactic(auto)]
+
 ghost use Rattle.std.specs.Prelude.{◌<◌, length};
 
 use paper::Profile;

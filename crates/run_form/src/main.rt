@@ -1,6 +1,8 @@
 // Runs `form::form_of` over each case of the file `cases` and over each beginning of it, and writes what was found.
 // A case is a name and a text, as parts, and a line feed.
 // What it must write, `stdout`, was worked out from the rules (docs/RULES.md, 2) and not by a run.
+#![tactic(auto)]
+
 ghost use Rattle.std.specs.Prelude.{◌≤◌};
 
 use form::Form;

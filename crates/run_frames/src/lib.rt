@@ -1,4 +1,6 @@
 // A file of cases, and the parts of a case: each is its length in decimal, a `:`, its bytes and a `,`.
+#![tactic(auto)]
+
 ghost use Rattle.std.specs.Prelude.{◌≤◌, length};
 ghost use Rattle.io.specs.Counts.{IsPrefixLen};
 

@@ -1,4 +1,6 @@
 // The lines that the programs write, as docs/RULES.md (11) shows them.
+#![tactic(auto)]
+
 use libc::STDOUT_FILENO;
 use verdict_answers::{OfMessage, OfRegrouping};
 

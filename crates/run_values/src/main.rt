@@ -1,5 +1,7 @@
 // Judges the values that the source documents print, a line each, and tries the neighbours of accounts. A line of `stdin` is row, parent, longest
 // length, currency and text, in fixed columns; or `=` and an account, each character of which is changed to every other capital or digit.
+#![tactic(auto)]
+
 ghost use Rattle.std.specs.Prelude.{◌≤◌, ◌<◌, length};
 
 use leaf_values::Judgement;

@@ -1,5 +1,7 @@
 // The verdict on the message on standard input: one line, and where it is accepted one more for each payment: ordinal, block, debtor IBAN, creditor IBAN, cents
 // and end-to-end id.
+#![tactic(auto)]
+
 use libc::STDIN_FILENO;
 use paper::Profile;
 

@@ -1,4 +1,6 @@
 // The words that a program is started with.
+#![tactic(auto)]
+
 use libc::STDERR_FILENO;
 use paper::Profile;
 

@@ -1,4 +1,6 @@
 // The tree of a message of the form as numbers in a buffer, six for each element (specs/Laid.antt), read.
+#![tactic(auto)]
+
 ghost use Rattle.std.specs.Prelude.{◌≡◌, true, ◌<◌};
 ghost use Rattle.paper.specs.Rows.{name};
 ghost use Rattle.form_names.specs.Names.{name_number, is_sought};

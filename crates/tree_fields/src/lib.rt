@@ -1,4 +1,6 @@
 // Where the seventeen fields of a payment stand in the laid-out tree of a message: a table of routes.
+#![tactic(auto)]
+
 ghost use Rattle.std.specs.Prelude.{◌≡◌, true, List, ℕ};
 ghost use Rattle.paper.specs.Bytes.{every};
 ghost use Rattle.paper.specs.Form.{Element};

@@ -1,4 +1,6 @@
 // What elements of the laid-out tree hold, as parts of the message; the text of a leaf, and the number that the text says.
+#![tactic(auto)]
+
 ghost use Rattle.std.specs.Prelude.{◌≡◌, true, ℕ, ◌<◌, ◌^◌};
 ghost use Rattle.paper.specs.Bytes.{bytes};
 ghost use Rattle.paper.specs.Form.{Head, Element};

@@ -1,9 +1,11 @@
 // Children found by their rows in the laid-out tree of a message, and what stands at the end of a route of rows.
+#![tactic(auto)]
+
 ghost use Rattle.std.specs.Prelude.{◌≡◌, true, List, [], ◌∷◌, ℕ, ◌+◌, ◌<◌, ◌≤◌};
 ghost use Rattle.std.proofs.Math.Option.{Option};
 ghost use Rattle.paper.specs.Bytes.{every};
 ghost use Rattle.paper.specs.Form.{Element, Elements};
-ghost use Rattle.paper.specs.Rows.{name as name-of-row};
+ghost use Rattle.paper.specs.Rows.{name as name_of_row};
 ghost use Rattle.paper.specs.Payments.{listed, all_named, all_of, child, either_of};
 ghost use Rattle.form_names.specs.Names.{name_number, is_sought};
 ghost use Rattle.tree.specs.Laid.{Laid, LaidAll, LaidAt};
@@ -12,7 +14,7 @@ ghost use Rattle.tree_routes.specs.Finds.{Finds, Next, rows_in, onward, ByName, 
 use tree::Tree;
 
 // Where an element stands that may be absent.
-#[derive(Drop)]
+#[derive(Clone, Copy)]
 pub enum Found {
     At(usize),
     Nothing,
@@ -23,7 +25,7 @@ pub type Children = [u16; 59];
 
 // Of the elements from i up to `stop`, the first whose name has this number; `stop` where there is none.
 fn next_named(tree: &Tree, i: usize, stop: usize, name: usize) -> usize
-    ensures { (i ≤ result) × ((s : List ℕ) (row : ℕ) (ts : Elements) → is_sought row ≡ true → name ≡ name_number (name-of-row row) → LaidAll s tree.now ts i stop
+    ensures { (i ≤ result) × ((s : List ℕ) (row : ℕ) (ts : Elements) → is_sought row ≡ true → name ≡ name_number (name_of_row row) → LaidAll s tree.now ts i stop
         → Next s tree.now row (all_named row (listed ts)) result stop) }
 {
     let mut at = i;

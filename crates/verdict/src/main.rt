@@ -1,4 +1,6 @@
 // The verdict on the message on standard input, in the first profile. Started with the word `archived` it reads the message as an archived one.
+#![tactic(auto)]
+
 use paper::Profile;
 
 fn main() {

@@ -1,4 +1,6 @@
 // The answers as the rules' numbers.
+#![tactic(auto)]
+
 ghost use Rattle.std.specs.Prelude.{◌≡◌};
 ghost use Rattle.paper.specs.Regrouping.{message_refused, answered as answers_with};
 ghost use Rattle.paper.specs.Answers.{refusal_of, verdict_says, regrouping_says};
@@ -6,7 +8,7 @@ ghost use Rattle.verdict_answers.specs.Numbers.{Numbers, as_answer, as_regroupin
 
 use paper::{Fault, Regrouping, Verdict};
 
-#[derive(Drop)]
+#[derive(Clone, Copy)]
 pub struct Refusal {
     pub number: usize,
     pub element: usize,
@@ -47,7 +49,7 @@ pub fn refusal_of(fault: Fault) -> Refusal
 
 // What is returned of a message.
 #[repr(C)]
-#[derive(Drop)]
+#[derive(Clone, Copy)]
 pub struct OfMessage {
     pub number: u64,
     pub element: u64,
@@ -89,7 +91,7 @@ pub fn of_message(verdict: Verdict) -> OfMessage
 
 // What is returned of a regrouping.
 #[repr(C)]
-#[derive(Drop)]
+#[derive(Clone, Copy)]
 pub struct OfRegrouping {
     pub whose: u64,
     pub number: u64,

@@ -1,4 +1,6 @@
 // The text of a field of a payment that stands in the order, as a part of the message.
+#![tactic(auto)]
+
 ghost use Rattle.std.specs.Prelude.{◌+◌, ◌≤◌, ◌<◌, length};
 ghost use Rattle.paper.specs.Form.{Element};
 ghost use Rattle.paper.specs.Payments.{payments as all_payments};

@@ -1,4 +1,6 @@
 // The verdict on a message, the lent table, and the text of a field.
+#![tactic(auto)]
+
 ghost use Rattle.std.specs.Prelude.{◌<◌};
 ghost use Rattle.paper.specs.Answers.{profile_named};
 ghost use Rattle.verdict_reader.specs.Promises.{VerdictPromise, FieldPromise};

@@ -1,4 +1,6 @@
 // The stages of the verdict, one after the other: what comes of a message where no table is lent.
+#![tactic(auto)]
+
 ghost use Rattle.std.specs.Prelude.{◌≡◌, true, ◌≤◌, ◌<◌, length};
 ghost use Rattle.std.proofs.Math.Option.{none};
 ghost use Rattle.paper.specs.Form.{Element};

@@ -1,4 +1,6 @@
 // The lent table after acceptance: twenty numbers for each payment.
+#![tactic(auto)]
+
 ghost use Rattle.std.specs.Prelude.{◌≡◌, List, ◌++◌, ℕ, ◌+◌, ◌*◌, ◌≤◌, length, drop};
 ghost use Rattle.std.proofs.Math.Option.{Option};
 ghost use Rattle.std.proofs.Math.Seq.{paste};
@@ -20,14 +22,14 @@ use tree_fields::Routes;
 use tree_routes::{Children, Found};
 
 // A part of the message.
-#[derive(Drop)]
+#[derive(Clone, Copy)]
 pub struct Span {
     pub start: usize,
     pub size: usize,
 }
 
 // The parts of a payment's row: end-to-end id, creditor IBAN, creditor name, ultimate debtor's name, contents of row 16, debtor IBAN; creditor BIC, remittance.
-#[derive(Drop)]
+#[derive(Clone, Copy)]
 pub struct Spans {
     pub id: Span,
     pub creditor: Span,

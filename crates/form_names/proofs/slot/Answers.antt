@@ -1,0 +1,11 @@
+use borrow.Author.Rules.{rules}
+use native.Mathlib.Nat.{mod-lt}
+use native.Mathlib.Omega.{arith}
+use Rattle.form_names.proofs.Laws.{slot_short, slot_long}
+use Rattle.form_names.proofs.slot.Goals as goal
+
+pub returns-then-size-lt6 : goal.returns-then-size-lt6
+returns-then-size-lt6 c = (slot_short _ c.if-size-lt6.true c.wide.ensures.0 c.wide-then-size-lt6.ensures.0, mod-lt _ (omega arith))
+
+pub returns : goal.returns
+returns c = (slot_long _ c.if-size-lt6.false c.wide-2.ensures.0 c.wide-3.ensures.0, mod-lt _ (omega arith))

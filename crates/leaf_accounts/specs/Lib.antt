@@ -1,0 +1,2 @@
+-- The remainder by 97, taken character by character.
+pub mod Remainders

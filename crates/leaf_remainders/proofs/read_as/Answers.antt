@@ -1,0 +1,10 @@
+use borrow.Author.Rules.{rules}
+use native.Mathlib.Omega.{arith}
+use Rattle.leaf_remainders.proofs.Laws.{alone}
+use Rattle.leaf_remainders.proofs.read_as.Goals as goal
+
+pub returns-then-digit : goal.returns-then-digit
+returns-then-digit c = (rw (alone _, ← c.digit.ensures, c.if-digit.true, c.above.ensures.0), omega arith)
+
+pub returns : goal.returns
+returns c = (rw (alone _, ← c.digit.ensures, c.if-digit.false, c.above-2.ensures.0), omega arith)

@@ -1,0 +1,15 @@
+use borrow.Author.Rules.{rules}
+use Prim.Native.Nat.{ℕ, ◌-◌}
+use mathlib.Core.Path.{◌≡◌, refl, sym, ap, ◌∙◌}
+use mathlib.Core.Option.{some}
+use Rattle.paper.specs.Refusals.{missing_of}
+use Rattle.rows_places.specs.Numbers.{of_entry, places_between}
+use Rattle.rows_places.specs.Seek.{lacking}
+use Rattle.rows_places.proofs.Places.{missing_goes, missing_stops, missing-ends}
+use Rattle.rows_places.proofs.missing.Given as goal
+
+abbrev pub invariant-loop-p : goal.invariant-loop-p
+invariant-loop-p l = missing_of (places_between l.rows l.places l.from l.to) ≡ missing_of (places_between l.rows l.places l.p l.to)
+
+abbrev pub decreases-loop-p : goal.decreases-loop-p
+decreases-loop-p l = l.to - l.p

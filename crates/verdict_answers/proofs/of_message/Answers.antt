@@ -1,0 +1,12 @@
+use Rattle.verdict_answers.specs.Numbers.{as_answer}
+use Rattle.verdict_answers.proofs.Laws.{message_answer, accepted_answer}
+use borrow.Author.Rules.{rules}
+use Rattle.verdict_answers.proofs.of_message.Goals as goal
+
+pub returns-in-Accepted : goal.returns-in-Accepted
+unfolding as_answer
+returns-in-Accepted c = accepted_answer c.in-Accepted.is
+
+pub returns-in-Refused : goal.returns-in-Refused
+unfolding as_answer
+returns-in-Refused c = ?
