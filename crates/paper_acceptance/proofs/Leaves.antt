@@ -168,6 +168,7 @@ of_field P z field p h = picked field (all_more z (elements_of h))
 at_place : {P : Payment → Type 0} {ps : List Payment} {k : ℕ} {p : Payment} → All P ps → At ps k p → P p
 at_place (all_more h k) at_first = h
 at_place (all_more h k) (at_later a) = at_place k a
+at_place all_none a = elim a [ ]
 
 field_part_is : {ps : List Payment} {k : ℕ} {p : Payment} (field : ℕ) → At ps k p → field_of ps k field ≡ part_of (field_element field p)
 unfolding field_of

@@ -118,6 +118,7 @@ above_five (Memᴰ.head e) l = omega (arith, e)
 above_five (Memᴰ.tail (Memᴰ.head e)) l = omega (arith, e)
 above_five (Memᴰ.tail (Memᴰ.tail (Memᴰ.head e))) l = omega (arith, e)
 above_five (Memᴰ.tail (Memᴰ.tail (Memᴰ.tail (Memᴰ.head e)))) l = omega (arith, e)
+above_five (Memᴰ.tail (Memᴰ.tail (Memᴰ.tail (Memᴰ.tail m)))) l = elim m [ ]
 
 kept_some : {a b : Option Refusal} {x : Refusal} → Kept of_values a b → a ≡ some x → x.number < 5 → b ≡ some x
 kept_some {x = x} (as_found e) n l = subst (λ (z : Option Refusal). z ≡ some x) e n

@@ -72,6 +72,7 @@ module _ (H : Stage → Type 0) where
   none_first : {stages : List Stage} {a : Stage} → All H stages → FirstNot H stages a → ⊥
   none_first (all_more h k) (this_one n) = n h
   none_first (all_more h k) (a_later_one i f) = none_first k f
+  none_first all_none f = elim f [ ]
 
   pub first_fails : {stages : List Stage} {a : Stage} → FirstNot H stages a → H a → ⊥
   first_fails (this_one n) h = n h

@@ -16,7 +16,7 @@ use Rattle.paper.specs.Values.{among, shaped, bic, right_for}
 use Rattle.paper.specs.Payments.{Payment, text_of, listed, children, all_named, all_of, child, follow, payments, in_block, either_of}
 use Rattle.paper.specs.Refusals.{rows_at, among_texts}
 use Rattle.paper.specs.Fields.{Value, absent, a_text, text_value, plain, or_means, amount_field, remittance, fields, values_of}
-use Rattle.paper.specs.Accepted.{EachWith, each_more, There, RightText, RightElement, ValuesRight, Accepted}
+use Rattle.paper.specs.Accepted.{EachWith, each_none, each_more, There, RightText, RightElement, ValuesRight, Accepted}
 use Rattle.paper.specs.Regrouping.{At, at_first, at_later, Regroups}
 use Rattle.paper.proofs.Laws.{false_not_true, some_not_none, both_right, same_says, same_tests, same_differs, all_member}
 use Rattle.paper_acceptance.proofs.Arranged.{rows_of}
@@ -164,6 +164,7 @@ one_place (at_later h) (at_later k) = one_place h k
 paired_with : {A B : Type 0} {R : A → B → Type 0} {l : List A} {m : List B} {a : A} → EachWith R l m → Memᴰ a l → (b : B) × Memᴰ b m × R a b
 paired_with {R = R} (each_more {b = b} r h) (Memᴰ.head e) = (b, Memᴰ.head refl, subst (λ c. R c b) (sym e) r)
 paired_with (each_more r h) (Memᴰ.tail i) = let q = paired_with h i in (q.0, Memᴰ.tail q.1, q.2)
+paired_with each_none m = elim m [ ]
 
 -- in a message that is accepted as new
 module _ (profile : Profile) (proper : Proper profile) where

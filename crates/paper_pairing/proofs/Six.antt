@@ -67,6 +67,7 @@ payments_six first second file = if_six (not (eqb (length first) (length second)
 not_a_pair : {n : ℕ} → Memᴰ n (18 ∷ 19 ∷ []) → n ≡ 0 → ⊥
 not_a_pair (Memᴰ.head f) e = omega (arith, f, e)
 not_a_pair (Memᴰ.tail (Memᴰ.head f)) e = omega (arith, f, e)
+not_a_pair (Memᴰ.tail (Memᴰ.tail m)) e = elim m [ ]
 
 module _ (profile : Profile) (proper : Proper profile) (first second file : List ℕ) where
   pub six_numbers : SixNumbers (regrouping profile first second file)

@@ -70,8 +70,10 @@ none_of_six (of_no_pair n (Memᴰ.head f)) e = omega (arith, f, e)
 none_of_six (of_no_pair n (Memᴰ.tail (Memᴰ.head f))) e = omega (arith, f, e)
 none_of_six (of_no_pair n (Memᴰ.tail (Memᴰ.tail (Memᴰ.head f)))) e = omega (arith, f, e)
 none_of_six (of_no_pair n (Memᴰ.tail (Memᴰ.tail (Memᴰ.tail (Memᴰ.head f))))) e = omega (arith, f, e)
+none_of_six (of_no_pair n (Memᴰ.tail (Memᴰ.tail (Memᴰ.tail (Memᴰ.tail m))))) e = elim m [ ]
 none_of_six (of_a_pair n k (Memᴰ.head f)) e = omega (arith, f, e)
 none_of_six (of_a_pair n k (Memᴰ.tail (Memᴰ.head f))) e = omega (arith, f, e)
+none_of_six (of_a_pair n k (Memᴰ.tail (Memᴰ.tail m))) e = elim m [ ]
 none_of_six (of_a_field k field) e = omega (arith, e)
 
 module _ (instant archived : Bool) where

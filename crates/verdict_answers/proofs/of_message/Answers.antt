@@ -9,4 +9,4 @@ returns-in-Accepted c = accepted_answer c.in-Accepted.is
 
 pub returns-in-Refused : goal.returns-in-Refused
 unfolding as_answer
-returns-in-Refused c = ?
+returns-in-Refused c = message_answer c.in-Refused.fault c.refusal_of-refusal.ensures c.in-Refused.is

@@ -1,0 +1,12 @@
+use mathlib.Core.List.{[], ◌∷◌}
+use mathlib.Core.Path.{refl}
+use Rattle.paper.specs.Bytes.{every}
+use Rattle.form_names.specs.Names.{is_sought}
+use Rattle.tree_routes.specs.Finds.{rows_in}
+use Rattle.move_alike.proofs.Alike.{in_payment_found}
+use borrow.Author.Rules.{rules}
+use Rattle.move_alike.proofs.issuer.Goals as goal
+
+pub returns : goal.returns
+unfolding rows_in every is_sought
+returns c = λ s p b. in_payment_found 48 (50 ∷ 51 ∷ 52 ∷ 54 ∷ []) p (c.follow.ensures s _ refl (c.first.ensures s _ p.own refl b))

@@ -1,0 +1,14 @@
+use mathlib.Core.Path.{refl}
+use Rattle.form_names.specs.Names.{is_sought}
+use Rattle.tree_routes.proofs.WhatIsFound.{found_none, found_some}
+use Rattle.rule_limits.proofs.NestedWalk.{holds_none}
+use borrow.Author.Rules.{rules}
+use Rattle.rule_limits.proofs.limits_refusal.Goals as goal
+
+pub returns-in_default : goal.returns-in_default
+unfolding is_sought
+returns-in_default c = ((search rules, search rules), λ s root l room. holds_none (found_none (c.child-top.ensures s root refl l) c.in_default.is))
+
+pub returns : goal.returns
+unfolding is_sought
+returns c = (c.walk.ensures.0, λ s root l room. let f = found_some (c.child-top.ensures s root refl l) c.in-At.is in c.walk.ensures.1 s root f.it f.is_it f.laid room)
