@@ -80,12 +80,12 @@ module _ {A : Type 0} {P : A → Type 0} where
 module _ {s tree order : List ℕ} where
   payments_left : {k : ℕ} (ps qs : List Payment) → PaymentsAt s tree order k (ps ++ qs) → PaymentsAt s tree order k ps
   payments_left [] qs at = no_payments
-  payments_left (p ∷ ps) qs (more_payments a at) = more_payments a (payments_left ps qs at)
+  payments_left {k = k} (p ∷ ps) qs (more_payments a at) = more_payments a (payments_left {k = k + 1} ps qs at)
 
   payments_right : {k n : ℕ} (ps : List Payment) {qs : List Payment} → PaymentsAt s tree order k (ps ++ qs) → n ≡ k + length ps
       → PaymentsAt s tree order n qs
   payments_right {k} {n} [] {qs} at e = subst (λ (m : ℕ). PaymentsAt s tree order m qs) (let x : k ≡ n = omega arith in x) at
-  payments_right {k} {n} (p ∷ ps) (more_payments a at) e = payments_right ps at (let x : n ≡ k + 1 + length ps = omega arith in x)
+  payments_right {k} {n} (p ∷ ps) (more_payments a at) e = payments_right {k = k + 1} ps at (let x : n ≡ k + 1 + length ps = omega arith in x)
 
 -- the payments of a block and those of the blocks behind it
 mine_are : (k : ℕ) (b : Element) → All (InBlock k) (payments_of k b)

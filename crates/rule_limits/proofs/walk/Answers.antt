@@ -6,18 +6,7 @@ use lib.ListN.{length}
 use borrow.Author.Rules.{rules}
 use Rattle.rule_limits.proofs.NestedWalk.{BeforeBlock, BeforePayment, Along, begins, enters, passes, leaves, Exit, left_at_end, left_at_block, left_at_payment, few_said, limits_said}
 use Rattle.rule_limits.proofs.walk.Goals as goal
-
--- the three ways out of the walk meet
-left : (c : tie.Left-blocks2 invariant-loop decreases-loop invariant-blocks2 decreases-blocks2)
-    → Exit c.before.before.before.before.args.tree.now c.before.before.before.before.args.order.now c.blocks2-test.order c.before.before.before.before.args.initiation c.before.blocks2.blocks c.blocks2-test.payments c.blocks2-test.element c.blocks2-test.excess
-left c =
-    let inv = c.before.blocks2.invariant in
-    ⊎_elim
-    (λ w. left_at_end inv.0 inv.1 w.0.left inv.3 inv.4 w.1 w.2 (w.3 ∙ inv.2))
-    (⊎_elim
-    (λ w. left_at_block inv.0 inv.1 w.0.taken w.1.taken inv.4 w.2 w.3 w.4 w.5)
-    (λ w. left_at_payment inv.0 w.6.inv.0 w.7.taken w.8.taken w.6.inv.3 w.9 w.10 w.11 w.12))
-    c.blocks2-test.branch
+use Rattle.rule_limits.proofs.walk.Goals.{else-blocks-2-test, then-blocks-2-test+then-blocks-eq-MOST_BLOCKS, then-blocks-2-test+else-blocks-eq-MOST_BLOCKS+then-loop-own-test+then-payments-eq-MOST_PAYMENTS}
 
 pub blocks-2-init : goal.blocks-2-init
 blocks-2-init c = (search rules, search rules, refl, refl, λ s root holder e l. begins e l c.cell-stop.ensures c.first_in-block.ensures)
@@ -63,4 +52,14 @@ blocks-2-preserved c =
     )
 
 pub returns : goal.returns
-returns c = (few_said (left c.before) c.said.ensures, limits_said (left c.before) c.said.ensures)
+returns c =
+    let inv = c.blocks-2.invariant in
+    -- the three ways out of the walk meet
+    let left : Exit c.args.tree.now c.args.order.now c.blocks-2-test.order c.args.initiation c.blocks-2.blocks c.blocks-2-test.payments c.blocks-2-test.element c.blocks-2-test.excess =
+        elim c.blocks-2-test.branch [
+          else-blocks-2-test w ↦ left_at_end inv.0 inv.1 w.blocks-2-test.false inv.3 inv.4 w.order-is w.payments-is (w.element-is ∙ inv.2)
+        | then-blocks-2-test+then-blocks-eq-MOST_BLOCKS w ↦
+            left_at_block inv.0 inv.1 w.blocks-2-test.true w.if-blocks-eq-MOST_BLOCKS.true inv.4 w.order-is w.payments-is w.element-is w.excess-is
+        | then-blocks-2-test+else-blocks-eq-MOST_BLOCKS+then-loop-own-test+then-payments-eq-MOST_PAYMENTS w ↦
+            left_at_payment inv.0 w.loop-own.invariant.0 w.loop-own-test.true w.if-payments-eq-MOST_PAYMENTS.true w.loop-own.invariant.3 w.order-is w.payments-is w.element-is w.excess-is ]
+    in (few_said left c.said.ensures, limits_said left c.said.ensures)

@@ -1,0 +1,13 @@
+use Prim.Native.Nat.{◌-◌}
+use mathlib.Core.List.{List}
+use Rattle.paper.specs.Form.{Element}
+use Rattle.rule_counts.specs.Counted.{BlocksFrom}
+use Rattle.rule_counts.proofs.EachBlock.{BlocksLeft, blocks_left, blocks_done, block_refused, block_passed}
+use borrow.Author.Rules.{rules}
+use Rattle.rule_counts.proofs.in_blocks.Given as goal
+
+abbrev pub invariant-loop-k : goal.invariant-loop-k
+invariant-loop-k l = (bs : List Element) → BlocksFrom l.s l.tree l.order 0 0 l.blocks l.payments bs → BlocksLeft l.s l.tree l.order l.k l.from l.blocks l.payments bs
+
+abbrev pub decreases-loop-k : goal.decreases-loop-k
+decreases-loop-k l = l.blocks - l.k

@@ -1,0 +1,32 @@
+use Prim.Native.Nat.{ℕ, ◌-◌, ◌≤◌}
+use native.Mathlib.Omega.{arith}
+use mathlib.Core.List.{List}
+use mathlib.Core.Path.{◌≡◌}
+use lib.ListN.{length}
+use borrow.Author.Rules.{rules}
+use Rattle.paper.specs.Form.{Element}
+use Rattle.paper.specs.Payments.{payments as all_payments}
+use Rattle.tree_routes.specs.Finds.{ChildrenOf}
+use Rattle.rule_limits.specs.Ordered.{Ordered}
+use Rattle.rule_usage.proofs.Walk.{Left, at_start, none_left, refused, passed}
+use Rattle.rule_usage.proofs.usage_refusal.Goals as goal
+
+pub loop-k-init : goal.loop-k-init
+loop-k-init c = (c.by_name-block.ensures, λ s root o e n. at_start c.args.payments o e)
+
+pub returns-in_default : goal.returns-in_default
+returns-in_default c =
+    let test = c.loop-k-test.true in
+    let inv = c.loop-k.invariant in
+    let children = c.by_name_again-block.ensures inv.0 in
+    λ s root o e n. refused (inv.1 s root o e n) test (c.payment-payment.ensures (omega (arith, test, n))) children _ c.in_payment-found.ensures c.in_default.is
+
+pub loop-k-preserved : goal.loop-k-preserved
+loop-k-preserved c =
+    let test = c.loop-k-test.true in
+    let inv = c.loop-k.invariant in
+    let children = c.by_name_again-block.ensures inv.0 in
+    (children, λ s root o e n. passed (inv.1 s root o e n) test (c.payment-payment.ensures (omega (arith, test, n))) children _ c.in_payment-found.ensures c.in-Nothing.is)
+
+pub returns : goal.returns
+returns c = λ s root o e n. none_left (c.loop-k.invariant.1 s root o e n) c.loop-k-test.false

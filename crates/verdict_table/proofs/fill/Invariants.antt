@@ -1,0 +1,22 @@
+use Prim.Native.Nat.{◌-◌, ◌≤◌}
+use native.Mathlib.Omega.{arith}
+use borrow.Author.Rules.{rules}
+use mathlib.Core.Path.{◌≡◌, refl, ◌∙◌}
+use lib.ListN.{length}
+use Rattle.paper.specs.Sizes.{least_table}
+use Rattle.paper.specs.Form.{Element}
+use Rattle.paper.specs.Payments.{payments as all_payments}
+use Rattle.paper.specs.Accepted.{All}
+use Rattle.tree_routes.specs.Finds.{ChildrenOf}
+use Rattle.rule_limits.specs.Ordered.{Ordered}
+use Rattle.verdict_table.specs.Rows.{Fitting}
+use Rattle.verdict_table.proofs.Filling.{Filled, start, one_filled, all_filled}
+use Rattle.verdict_table.proofs.fill.Given as goal
+
+abbrev pub invariant-loop-k : goal.invariant-loop-k
+invariant-loop-k l =
+    (length l.table ≡ length l.initial.table) × ChildrenOf l.tree l.known l.block × ((root : Element) → length l.s ≤ 32768 → Ordered l.s l.tree l.order root
+    → l.payments ≡ length (all_payments root) → All Fitting (all_payments root) → least_table ≤ length l.initial.table → Filled l.s l.tree l.order l.initial.table root l.payments l.k l.table)
+
+abbrev pub decreases-loop-k : goal.decreases-loop-k
+decreases-loop-k l = l.payments - l.k
