@@ -1,0 +1,15 @@
+use Rattle.verdict_reader.proofs.Verdicts.{too_short, refused_promise, accepted_promise}
+use lib.ListN.{length-replicate}
+use Prim.Native.Nat.{ℕ}
+use native.Mathlib.Omega.{arith}
+use borrow.Author.Rules.{rules}
+use Rattle.verdict_reader.proofs.verdict.Goals as goal
+
+pub returns-then-table-lt-LEAST_TABLE : goal.returns-then-table-lt-LEAST_TABLE
+returns-then-table-lt-LEAST_TABLE c = too_short _ c.args.message.now c.args.table.now c.if-table-lt-LEAST_TABLE.true
+
+pub returns-in-Refused : goal.returns-in-Refused
+returns-in-Refused c = refused_promise c.if-table-lt-LEAST_TABLE.false (c.outcome-found.ensures (omega (arith, length-replicate {A = ℕ} 28200 0)) (omega (arith, length-replicate {A = ℕ} 208 0))) c.in-Refused.is
+
+pub returns-in-Accepted : goal.returns-in-Accepted
+returns-in-Accepted c = accepted_promise c.if-table-lt-LEAST_TABLE.false (c.outcome-found.ensures (omega (arith, length-replicate {A = ℕ} 28200 0)) (omega (arith, length-replicate {A = ℕ} 208 0))) c.in-Accepted.is c.fill.ensures
