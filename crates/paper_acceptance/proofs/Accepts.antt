@@ -5,7 +5,7 @@ use mathlib.Core.Path.{◌≡◌}
 use mathlib.Core.Logic.{◌↔◌}
 use Rattle.paper.specs.Sizes.{least_table}
 use Rattle.paper.specs.Form.{Element}
-use Rattle.paper.specs.Rows.{Row, Profile}
+use Rattle.paper.specs.Rows.{Profile}
 use Rattle.paper.specs.Refusals.{accepted_with, outcome_alone, outcome}
 use Rattle.paper.specs.Accepted.{Accepted}
 use Rattle.paper_grammar.proofs.Complete.{complete}

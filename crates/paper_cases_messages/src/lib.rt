@@ -1,3 +1,2 @@
 // Messages and regroupings whose answers are computed from the definitions, under one theorem for each list (specs/, proofs/Proved.antt).
 #![tactic(auto)]
-

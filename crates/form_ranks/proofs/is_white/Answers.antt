@@ -1,4 +1,3 @@
-use borrow.Author.Rules.{rules}
 use mathlib.Core.Path.{sym, ◌∙◌}
 use Rattle.form_ranks.proofs.Classes.{white_from}
 use Rattle.form_ranks.proofs.is_white.Goals as goal

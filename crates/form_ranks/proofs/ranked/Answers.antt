@@ -1,4 +1,3 @@
-use borrow.Author.Rules.{rules}
 use borrow.Author.Tests.{le-leb, lt-leb}
 use Rattle.paper.specs.Values.{lies_from}
 use Rattle.form_ranks.proofs.ranked.Goals as goal

@@ -1,4 +1,3 @@
-use borrow.Author.Rules.{rules}
 use Rattle.paper.specs.Bytes.{capital, from_to}
 use Rattle.leaf_texts.proofs.capital.Goals as goal
 

@@ -1,4 +1,3 @@
-use borrow.Author.Rules.{rules}
 use Rattle.paper.specs.Bytes.{capital_or_digit}
 use Rattle.leaf_texts.proofs.capital_or_digit.Goals as goal
 

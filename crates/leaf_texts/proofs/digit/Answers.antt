@@ -1,4 +1,3 @@
-use borrow.Author.Rules.{rules}
 use Rattle.paper.specs.Bytes.{digit, from_to}
 use Rattle.leaf_texts.proofs.digit.Goals as goal
 

@@ -1,4 +1,3 @@
-use borrow.Author.Rules.{rules}
 use Rattle.leaf_texts.proofs.either.Goals as goal
 
 pub returns-then-same : goal.returns-then-same

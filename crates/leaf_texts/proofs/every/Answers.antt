@@ -1,10 +1,5 @@
 use borrow.Author.Rules.{rules}
-use Prim.Native.Nat.{◌-◌, ◌≤◌}
-use mathlib.Core.Path.{◌≡◌, sym, ◌∙◌}
-use lib.ListN.{length, drop}
-use borrow.Author.Tests.{not-true, not-false}
-use Rattle.paper.specs.Bytes.{every}
-use Rattle.leaf_texts.specs.Shapes.{fits_byte}
+use mathlib.Core.Path.{sym, ◌∙◌}
 use Rattle.leaf_texts.proofs.Laws.{every_goes, every_stops, every-ends}
 use Rattle.leaf_texts.proofs.every.Goals as goal
 

@@ -1,11 +1,8 @@
-use borrow.Author.Rules.{rules}
 use Prim.Native.Nat.{◌-◌, ◌≤◌}
-use mathlib.Core.Path.{◌≡◌, sym, ◌∙◌}
+use mathlib.Core.Path.{◌≡◌}
 use lib.ListN.{length, drop}
-use borrow.Author.Tests.{not-true, not-false}
 use Rattle.paper.specs.Bytes.{every}
 use Rattle.leaf_texts.specs.Shapes.{fits_byte}
-use Rattle.leaf_texts.proofs.Laws.{every_goes, every_stops, every-ends}
 use Rattle.leaf_texts.proofs.every.Given as goal
 
 abbrev pub invariant-loop-i : goal.invariant-loop-i

@@ -1,12 +1,8 @@
 use borrow.Author.Rules.{rules}
 use native.Mathlib.Omega.{arith}
-use Prim.Native.Nat.{◌-◌, ◌≤◌}
-use mathlib.Core.Path.{◌≡◌, sym, ◌∙◌}
-use lib.ListN.{length, drop}
+use mathlib.Core.Path.{sym, ◌∙◌}
 use lib.Dec.{eqb}
 use borrow.Author.Tests.{eq-eqb, ne_eqb}
-use Rattle.paper.specs.Bytes.{same}
-use Rattle.leaf_texts.specs.Shapes.{pairwise}
 use Rattle.leaf_texts.proofs.Laws.{same_is, pairwise-length, pairwise_goes, pairwise_stops, pairwise-ends, four_on}
 use Rattle.leaf_texts.proofs.same.Goals as goal
 

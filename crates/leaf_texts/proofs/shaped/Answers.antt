@@ -1,10 +1,7 @@
 use borrow.Author.Rules.{rules}
 use native.Mathlib.Omega.{arith}
-use Prim.Native.Nat.{◌-◌, ◌≤◌}
-use mathlib.Core.Path.{◌≡◌, sym, ◌∙◌}
-use lib.ListN.{length, drop}
-use borrow.Author.Tests.{not-true, not-false}
-use Rattle.leaf_texts.specs.Shapes.{fits_byte, pairwise}
+use mathlib.Core.Path.{sym, ◌∙◌}
+use Rattle.leaf_texts.specs.Shapes.{fits_byte}
 use Rattle.leaf_texts.proofs.Laws.{pairwise-length, pairwise_goes, pairwise_stops, pairwise-ends}
 use Rattle.leaf_texts.proofs.shaped.Goals as goal
 

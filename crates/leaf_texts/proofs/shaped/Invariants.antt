@@ -1,11 +1,7 @@
-use borrow.Author.Rules.{rules}
-use native.Mathlib.Omega.{arith}
 use Prim.Native.Nat.{◌-◌, ◌≤◌}
-use mathlib.Core.Path.{◌≡◌, sym, ◌∙◌}
+use mathlib.Core.Path.{◌≡◌}
 use lib.ListN.{length, drop}
-use borrow.Author.Tests.{not-true, not-false}
 use Rattle.leaf_texts.specs.Shapes.{fits_byte, pairwise}
-use Rattle.leaf_texts.proofs.Laws.{pairwise-length, pairwise_goes, pairwise_stops, pairwise-ends}
 use Rattle.leaf_texts.proofs.shaped.Given as goal
 
 abbrev pub invariant-loop-i : goal.invariant-loop-i
