@@ -9,7 +9,7 @@ use lib.ListN.{length, get_or, set, take, drop, length-set, length-take, take-ap
 use lib.Seq.{get_or-set_same, get_or-set_other, drop-drop}
 use Rattle.paper.specs.Bytes.{bytes}
 use Rattle.paper.specs.Form.{Head, Element, Elements, amount_tag, end_tag, IsStartTag, of_root, of_amount, of_any_other}
-use Rattle.paper_grammar.proofs.InPlace.{TagsInPlace, InPlace, text_in_place, elements_in_place, AllInPlace, none_in_place, more_in_place}
+use Rattle.paper_grammar.proofs.Standing.{TagsInPlace, InPlace, text_in_place, elements_in_place, AllInPlace, none_in_place, more_in_place}
 use Rattle.form_names.specs.Names.{name_number}
 use Rattle.tree.specs.Laid.{cell_of, between, Numbers, Written, Laid, laid_text, laid_elements, LaidAll, laid_none, laid_more}
 use Rattle.form.specs.Reads.{Kept, put, PutDown, Known, Numbered, numbered_text, numbered_elements, AllNumbered, none_numbered, more_numbered}

@@ -22,7 +22,7 @@ use Rattle.form.specs.declared.Form.TheVariants.{OfTheForm, RefusedAt}
 use Rattle.form_scans.specs.declared.Scan.{Scan}
 use Rattle.form_scans.specs.declared.Scan.TheVariants.{To, StopsAt}
 use Rattle.paper_grammar.proofs.Complete.{after_stays, before_stays}
-use Rattle.paper_grammar.proofs.Decides.{stop_is_refusal}
+use Rattle.paper_grammar.proofs.Stops.{stop_is_refusal}
 use Rattle.paper_grammar.proofs.Sound.{sound}
 use Rattle.form_scans.proofs.Laws.{from_stuck, want_step, want_stuck, reached, halted, halts, first, via, giving, chain}
 use Rattle.form.proofs.ContentLaws.{alike_short, alike_stuck, alike_next}

@@ -18,7 +18,7 @@ use Rattle.form_names.proofs.Laws.{same_number}
 use Rattle.form_scans.specs.Scans.{from, Word, Letters, Capitals, CapitalAt, end_of, Tag, Opened, opens_currency, stops}
 use Rattle.form_scans.specs.declared.Scan.{Scan}
 use Rattle.form_scans.specs.declared.Scan.TheVariants.{To, StopsAt}
-use Rattle.paper_grammar.proofs.Complete.{same_true, close_name}
+use Rattle.paper_grammar.proofs.Tags.{same_true, close_name}
 use Rattle.paper_grammar.proofs.Decides.{open_amount}
 use Rattle.form_scans.proofs.Laws.{from_next, from_stuck, from_short, no_to, went, halts, first, via, giving, giving_at, chain}
 

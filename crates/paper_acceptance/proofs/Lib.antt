@@ -13,5 +13,6 @@ pub mod Present
 pub mod RightValues
 pub mod Texts
 pub mod Leaves
+pub mod Outermost
 pub mod Absent
 pub mod AsBefore

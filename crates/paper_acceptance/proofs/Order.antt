@@ -20,7 +20,8 @@ use Rattle.paper.specs.Order.{Stage, for_table, for_size, for_form, for_rows, fo
 use Rattle.paper.proofs.Laws.{some_not_none, all_member}
 use Rattle.paper_grammar.proofs.Complete.{complete}
 use Rattle.paper_grammar.proofs.Sound.{sound}
-use Rattle.paper_grammar.proofs.Decides.{stop_is_refusal, refusal_is_stop}
+use Rattle.paper_grammar.proofs.Stops.{stop_is_refusal}
+use Rattle.paper_grammar.proofs.Decides.{refusal_is_stop}
 use Rattle.paper_acceptance.proofs.Proper.{Proper}
 use Rattle.paper_acceptance.proofs.Stages.{rows_kept, limits_kept, values_right, usage_kept, ids_apart, counts_true}
 use Rattle.paper_acceptance.proofs.Given.{Gives, gives_none, gives_one, if_gives, refuse_gives, rows_give, limits_give, values_give, usage_gives, ids_give, counts_give}

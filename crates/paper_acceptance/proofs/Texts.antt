@@ -14,7 +14,8 @@ use Rattle.paper.specs.Table.{part_of, pairs, first_pairs, last_pairs}
 use Rattle.paper.specs.Fields.{plain, or_means, amount_field, remittance, fields}
 use Rattle.paper.specs.Accepted.{All, all_none, all_more}
 use Rattle.paper.proofs.Laws.{all_joined}
-use Rattle.paper_grammar.proofs.InPlace.{InPlace, text_in_place, elements_in_place, AllInPlace, none_in_place, more_in_place, in_place}
+use Rattle.paper_grammar.proofs.Standing.{InPlace, text_in_place, elements_in_place, AllInPlace, none_in_place, more_in_place}
+use Rattle.paper_grammar.proofs.InPlace.{in_place}
 
 -- of an element that may be absent: if it is there, it stands in the message
 pub data Stands (s : List ℕ) : Option Element → Type 0 where

@@ -21,16 +21,7 @@ use Rattle.paper_grammar.proofs.Sound.{sound}
 use Rattle.paper_acceptance.proofs.Arranged.{named_in_says, past_found}
 use Rattle.paper_acceptance.proofs.OneWalk.{Kept, as_found, of_its_own, if_kept, or_kept}
 use Rattle.paper_archived.specs.Before as before
-
--- no element of a tree has this name
-unfoldable mutual
-  pub Nowhere : (name : List ℕ) → Element → Type 0
-  Nowhere n (holding_text h w) = h.name ≡ n → ⊥
-  Nowhere n (holding_elements h ts) = (h.name ≡ n → ⊥) × NowhereIn n ts
-
-  pub NowhereIn : (name : List ℕ) → Elements → Type 0
-  NowhereIn n []ᵉ = Unit {0}
-  NowhereIn n (t ∷ᵉ ts) = Nowhere n t × NowhereIn n ts
+use Rattle.paper_archived.proofs.Without.{Nowhere, NowhereIn, WithoutRow32}
 
 -- a message in which no element is named as a row that is withdrawn
 unfoldable pub NoneWithdrawn : Profile → List ℕ → Type 0
@@ -212,9 +203,6 @@ unfolding outcome before.outcome
 archived_as_before profile n s = ap (unless_refused (table_refusal n)) (archived_alone_as_before profile s)
 
 -- and for a new one in which no element is named as row 32.
-unfoldable pub WithoutRow32 : List ℕ → Type 0
-WithoutRow32 s = (root : Element) → IsMessage s root → Nowhere (name 32) root
-
 pub new_alone_as_before : (profile : Profile) (s : List ℕ) → WithoutRow32 s → outcome_alone (as_new profile) s ≡ before.outcome_alone profile.rows s
 unfolding as_new for_new NoneWithdrawn WithoutRow32
 new_alone_as_before profile s c =

@@ -1,2 +1,4 @@
+pub mod Without
 pub mod AsBefore
 pub mod NotProvided
+pub mod NeverRegrouped

@@ -1,5 +1,5 @@
 -- A payment whose agent was not provided equals none of a message that is accepted as new: there the agent is a BIC, which is never NOTPROVIDED.
-use Prim.Native.Nat.{ℕ, suc}
+use Prim.Native.Nat.{ℕ}
 use native.Mathlib.Omega.{arith}
 use mathlib.Core.List.Memᴰ
 use mathlib.Core.List.{List, [], ◌∷◌, Memᴰ}
@@ -16,15 +16,13 @@ use Rattle.paper.specs.Values.{among, shaped, bic, right_for}
 use Rattle.paper.specs.Payments.{Payment, text_of, listed, children, all_named, all_of, child, follow, payments, in_block, either_of}
 use Rattle.paper.specs.Refusals.{rows_at, among_texts}
 use Rattle.paper.specs.Fields.{Value, absent, a_text, text_value, plain, or_means, amount_field, remittance, fields, values_of}
-use Rattle.paper.specs.Accepted.{EachWith, each_none, each_more, There, RightText, RightElement, ValuesRight, Accepted}
-use Rattle.paper.specs.Regrouping.{At, at_first, at_later, Regroups}
+use Rattle.paper.specs.Accepted.{There, RightText, RightElement, ValuesRight, Accepted}
 use Rattle.paper.proofs.Laws.{false_not_true, some_not_none, both_right, same_says, same_tests, same_differs, all_member}
 use Rattle.paper_acceptance.proofs.Arranged.{rows_of}
 use Rattle.paper_acceptance.proofs.Routes.{takes, step, choice_there, right_conforms, StandsAs, EndsAs}
 use Rattle.paper_acceptance.proofs.Proper.{Proper, new_proper, block_route, bic_or_not}
 use Rattle.paper_acceptance.proofs.Present.{As, payments_as, stands, ends_as, follow_joined}
 use Rattle.paper_acceptance.proofs.RightValues.{right_value, leaf_text}
-use Rattle.paper_pairing.proofs.Regroups.{at_within}
 use Rattle.paper_archived.proofs.AsBefore.{row_is}
 
 -- what field 7 comes to
@@ -152,20 +150,6 @@ module _ (profile : Profile) (proper : Proper profile) where
       let a = agent p.block c.block_as in
       field_7 p ∙ says_so p.block a h.it (sym (in_agent p.block a 32 refl) ∙ h.is_it)
 
--- the place of one of a list; what a list is paired with
-place_of : {A : Type 0} {a : A} {l : List A} → Memᴰ a l → (k : ℕ) × At l k a
-place_of (Memᴰ.head {x = b} {xs = l} e) = (0, subst (λ c. At (b ∷ l) 0 c) (sym e) at_first)
-place_of (Memᴰ.tail m) = let k = place_of m in (suc k.0, at_later k.1)
-
-one_place : {A : Type 0} {a b : A} {l : List A} {k : ℕ} → At l k a → At l k b → a ≡ b
-one_place at_first at_first = refl
-one_place (at_later h) (at_later k) = one_place h k
-
-paired_with : {A B : Type 0} {R : A → B → Type 0} {l : List A} {m : List B} {a : A} → EachWith R l m → Memᴰ a l → (b : B) × Memᴰ b m × R a b
-paired_with {R = R} (each_more {b = b} r h) (Memᴰ.head e) = (b, Memᴰ.head refl, subst (λ c. R c b) (sym e) r)
-paired_with (each_more r h) (Memᴰ.tail i) = let q = paired_with h i in (q.0, Memᴰ.tail q.1, q.2)
-paired_with each_none m = elim m [ ]
-
 -- in a message that is accepted as new
 module _ (profile : Profile) (proper : Proper profile) where
   none_withdrawn : (b : Element) (a : Agent (as_new profile) (new_proper proper) b) (u : Element) → child 32 a.it ≡ some u → ⊥
@@ -181,21 +165,3 @@ module _ (profile : Profile) (proper : Proper profile) where
       let c = all_member (payments_as (as_new profile) (new_proper proper) (RightElement (as_new profile).withdrawn) m.root (none, m.tree.but_counts.values)) i in
       let a = agent (as_new profile) (new_proper proper) q.block c.block_as in
       provided (as_new profile) (new_proper proper) q.block a (none_withdrawn q.block a) (sym (field_7 q) ∙ e)
-
-  -- row 32 stands under no agent
-  pub never_withdrawn : (s : List ℕ) (m : Accepted (as_new profile) s) {q : Payment} → Memᴰ q (payments m.root) → AgentNotProvided q → ⊥
-  never_withdrawn s m i n = always_provided s m i (not_provided (as_new profile) (new_proper proper) s m i n)
-
-  -- A payment whose agent was not provided equals none of the second's.
-  pub equals_none : (first second : List ℕ) (a : Accepted profile first) (b : Accepted (as_new profile) second) {p q : Payment} → Memᴰ p (payments a.root) → AgentNotProvided p
-      → Memᴰ q (payments b.root) → values_of p ≡ values_of q → ⊥
-  equals_none first second a b i n j e =
-      always_provided second b j (sym (ap (λ (l : List Value). get_or l 6 absent) e) ∙ not_provided profile proper first a i n)
-
-  -- So no message with such a payment is regrouped.
-  pub all_provided : (first second file : List ℕ) (r : Regroups profile first second file) {p : Payment} → Memᴰ p (payments r.first_accepted.root) → AgentNotProvided p → ⊥
-  all_provided first second file r {p} i n =
-      let k = place_of i in
-      let q = paired_with r.paired (r.every_payment k.0 (at_within k.1)) in
-      let e : p ≡ q.2.one = one_place k.1 q.2.is_named in
-      equals_none first second r.first_accepted r.second_accepted i n q.1 (ap values_of e ∙ q.2.equal)

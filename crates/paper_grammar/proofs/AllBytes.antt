@@ -9,7 +9,7 @@ use lib.Dec.{leb}
 use borrow.Author.Tests.{leb-true, le-leb, eqb-true}
 use Rattle.paper.specs.Bytes.{bytes, is, from_to, one_of, white, text_byte, capital, digit, letter, letter_or_digit, Every, every_none as all_done, every_more, every}
 use Rattle.paper.specs.Form.{Element, IsName, letter_and, root_tag, start_tag, amount_tag, end_tag, IsStartTag, of_root, of_amount, of_any_other, IsElement, of_text, of_elements, no_more, one_more, declaration, no_declaration, one_declaration, IsMessage, whole, OfTheForm}
-use Rattle.paper_grammar.proofs.Complete.{both}
+use Rattle.paper_grammar.proofs.Tags.{both}
 use Rattle.paper_grammar.proofs.Sound.{either, white_text}
 
 unfoldable pub is_byte : ℕ → Bool

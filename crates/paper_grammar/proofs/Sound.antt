@@ -13,7 +13,8 @@ use lib.Dec.{leb, eqb}
 use borrow.Author.Tests.{eqb-true, leb-true}
 use Rattle.paper.specs.Bytes.{if◌then◌else◌, bytes, is, one_of, white, text_byte, capital, letter, letter_or_digit, same, Every, every_none as all_done, every_more}
 use Rattle.paper.specs.Form.{Element, Elements, holding_text, holding_elements, []ᵉ, ◌∷ᵉ◌, IsName, letter_and, root_tag, start_tag, amount_tag, end_tag, IsStartTag, of_root, of_amount, of_any_other, head, IsElement, of_text, of_elements, AreElements, no_more, one_more, declaration, IsDeclaration, no_declaration, one_declaration, IsMessage, whole}
-use Rattle.paper_grammar.proofs.Complete.{opened_by, same_true, deep_enough}
+use Rattle.paper_grammar.proofs.Tags.{same_true, opened_by}
+use Rattle.paper_grammar.proofs.Complete.{deep_enough}
 use Rattle.paper.specs.Computed.Reading.{Open, closed, State, fixed, opening, opened, before, angle, naming, capitals, blank, in_text, after_child, after, want, ending, in_root, in_amount, behind_name, step, ended, run, read, Reading, root_is, stops_at}
 
 -- what an open element may hold, and the element that it then is

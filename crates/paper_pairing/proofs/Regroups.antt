@@ -1,6 +1,6 @@
 -- Demand 3 on the definitions: a regrouping is accepted exactly where `Regroups` holds; and for two accepted messages an acceptable list exists exactly
 -- where every payment, taken as its seventeen fields, stands equally often in both.
-use Prim.Native.Nat.{ℕ, zero, suc, ◌+◌, ◌*◌, ◌/◌, ◌%◌, ◌≤◌, ◌<◌}
+use Prim.Native.Nat.{ℕ, zero, suc, ◌+◌, ◌*◌, ◌≤◌, ◌<◌}
 use native.Mathlib.Omega.{arith}
 use mathlib.Core.List.{List, [], ◌∷◌, ◌++◌, map}
 use mathlib.Core.Bool.{Bool, true, false, ◌&&◌, not}
@@ -18,12 +18,13 @@ use Rattle.paper.specs.Refusals.{Refusal, Outcome, refused_as, accepted_with, ou
 use Rattle.paper.specs.Accepted.{All, all_none, all_more, EachWith, each_none, each_more, Accepted}
 use Rattle.paper.specs.Fields.{Value, values_of}
 use Rattle.paper.specs.Regrouping.{RegroupingAnswer, message_refused, answered, add_first, numbers_16, counted, ordinals_of, two_bytes, file_of, same_payment, often, pairing, of_payments, all_values, of_outcomes, regrouping, At, at_first, at_later, Names, Regroups, AcceptableList, EquallyOften}
-use Rattle.paper.proofs.Laws.{some_not_none, both_left, both_right, same_says, all_map, all_from, all_joined}
+use Rattle.paper.proofs.Laws.{some_not_none, both_left, both_right, same_says, all_map, all_from}
 use Rattle.paper_acceptance.proofs.Proper.{Proper, new_proper}
 use Rattle.paper_acceptance.proofs.Accepts.{accepted_from, outcome_of}
 use Rattle.paper_pairing.proofs.Counting as counting
 use Rattle.paper_pairing.proofs.Counting.{count, names_none, names_more, Pairs, paired_counts, counts_paired, every_ordinal}
 use Rattle.paper_pairing.proofs.Pairing.{same_payment_says, same_payment_tests, pairing_rest, rest_pairing}
+use Rattle.paper_pairing.proofs.Files.{two_again, file_bytes}
 
 -- the pairing of payments, taken as their values
 abbrev NamedAs : (first : List (List Value)) (os : List ℕ) (second : List (List Value)) → Type 0
@@ -87,13 +88,6 @@ ordinals_back os = go (numbers_back (1 ∷ length os ∷ os))
     go : {o : Option (List ℕ)} → o ≡ some (1 ∷ length os ∷ os) → ◌≡◌ {A = Option (List ℕ)} (elim o [ none ↦ none | some ns ↦ counted ns ]) (some os)
     go e = rw (e, eq-eqb (length os) (length os) refl)
 
-two_again : (high low : ℕ) → low < 256 → two_bytes (high * 256 + low) ≡ high ∷ low ∷ []
-unfolding two_bytes
-two_again high low h = go (omega (arith, h)) (omega (arith, h))
-  where
-    go : {a b : ℕ} → a ≡ high → b ≡ low → a ∷ b ∷ [] ≡ high ∷ low ∷ []
-    go p q = cc
-
 back_numbers : (s : List ℕ) → All (λ b. b < 256) s → (ns : List ℕ) → numbers_16 s ≡ some ns → s ≡ each two_bytes ns
 unfolding numbers_16 each add_first
 back_numbers [] h ns e = go ns e
@@ -141,22 +135,6 @@ back_ordinals file os h e = go (same (take 3 file) (bytes "RGL")) refl (numbers_
     go true p (some ns) q f =
         sym (take-append-drop 3 file) ∙ ap (λ (l : List ℕ). l ++ drop 3 file) (same_says (take 3 file) (bytes "RGL") p) ∙
         ap (λ (l : List ℕ). bytes "RGL" ++ l) (back_numbers (drop 3 file) (all_drop 3 h) ns q ∙ ap (each two_bytes) (right ns f))
-
--- A file of ordinals is of bytes, if there are few of them and they are small.
-two_bytes_small : (n : ℕ) → n < 65536 → All (λ b. b < 256) (two_bytes n)
-unfolding two_bytes
-two_bytes_small n h = all_more {a = n / 256} (omega arith) (all_more {a = n % 256} (omega arith) all_none)
-
-all_small : {ns : List ℕ} → All (λ n. n < 65536) ns → All (λ b. b < 256) (each two_bytes ns)
-unfolding each
-all_small all_none = all_none
-all_small (all_more p h) = all_joined (two_bytes_small _ p) (all_small h)
-
-pub file_bytes : (os : List ℕ) → length os < 65536 → All (λ o. o < 65536) os → All (λ b. b < 256) (file_of os)
-unfolding file_of bytes
-file_bytes os l h =
-    all_joined (all_more {a = 82} (omega arith) (all_more {a = 71} (omega arith) (all_more {a = 76} (omega arith) all_none)))
-    (all_small (all_more {a = 1} (omega arith) (all_more l h)))
 
 -- what the list must be, for the payments of two messages
 record Listed (first second : List (List Value)) (file : List ℕ) : Type 0 where

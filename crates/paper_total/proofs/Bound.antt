@@ -1,27 +1,18 @@
 -- The total of the amounts of a message that is not refused by its rows, limits and values: at most 64 payments of at most 99,999,999,999 cents are 6,399,999,999,936 cents.
-use Prim.Native.Nat.{ℕ, ◌*◌, ◌≤◌}
+use Prim.Native.Nat.{ℕ, ◌≤◌}
 use native.Mathlib.Omega.{arith}
-use mathlib.Core.List.{List, map}
+use mathlib.Core.List.{List}
 use mathlib.Core.Option.{none}
 use mathlib.Core.Path.{◌≡◌}
-use lib.ListN.{length}
 use Rattle.paper.specs.Form.{Element}
 use Rattle.paper.specs.Rows.{Profile}
-use Rattle.paper.specs.Payments.{Payment, payments, sum_of, total}
+use Rattle.paper.specs.Payments.{payments, total}
 use Rattle.paper.specs.Refusals.{limits_refusal, values_refusal}
-use Rattle.paper.specs.Accepted.{All, all_none, all_more, Accepted}
+use Rattle.paper.specs.Accepted.{Accepted}
 use Rattle.paper_acceptance.proofs.Proper.{Proper}
 use Rattle.paper_acceptance.proofs.Stages.{limits_kept, values_right}
-use Rattle.paper_acceptance.proofs.RightValues.{SmallAmount, small_amounts}
-
--- what some payments come to, by how many there are
-as_many : {ps : List Payment} → All SmallAmount ps → sum_of (map (λ p. p.own) ps) ≤ length ps * 99999999999
-unfolding sum_of
-as_many all_none = omega arith
-as_many (all_more {a = p} {rest = ps} h k) = let below = as_many k in omega (arith, h, below)
-
-of_sixty_four : (ps : List Payment) → length ps ≤ 64 → All SmallAmount ps → sum_of (map (λ p. p.own) ps) ≤ 6399999999936
-of_sixty_four ps few small = let most = as_many small in omega (arith, few, most)
+use Rattle.paper_acceptance.proofs.RightValues.{small_amounts}
+use Rattle.paper_total.proofs.SixtyFour.{of_sixty_four}
 
 module _ {profile : Profile} (proper : Proper profile) where
   -- where neither 5 nor the walk of 6 to 8 and 28 refuses anything

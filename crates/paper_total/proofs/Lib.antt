@@ -1,2 +1,4 @@
+pub mod SixtyFour
 pub mod Bound
+pub mod NotRefused
 pub mod Unreached

@@ -5,7 +5,7 @@ use mathlib.Core.List.{List, Memᴰ}
 use mathlib.Core.Bool.{Bool}
 use mathlib.Core.Option.{Option, none, some}
 use mathlib.Core.Path.{◌≡◌, refl, sym, ap, subst, ◌∙◌}
-use borrow.Author.Tests.{lt-ltb, le-ltb}
+use borrow.Author.Tests.{le-ltb}
 use Rattle.paper.specs.Form.{Element}
 use Rattle.paper.specs.Rows.{Profile, profile_by, as_new}
 use Rattle.paper.specs.Values.{among}
@@ -21,7 +21,7 @@ use Rattle.paper_acceptance.proofs.Proper.{Proper, new_proper, any_proper}
 use Rattle.paper_acceptance.proofs.Order.{stage_at, no_stage, of_a_stage}
 use Rattle.paper_pairing.proofs.Six.{SixNumbers, of_a_message, of_no_pair, of_a_pair, of_a_field, six_numbers}
 use Rattle.paper_total.specs.With21 as with_21
-use Rattle.paper_total.proofs.Bound.{total_at_most}
+use Rattle.paper_total.proofs.NotRefused.{never_refused}
 
 -- The kept refusal is 21 for a total of 2^64 cents or more.
 pub above_is_21 : (root : Element) → 2 ^ 64 ≤ total root → with_21.total_refusal root ≡ refuse 21 7 (with_21.at_of (header_sum root))
@@ -29,13 +29,6 @@ unfolding with_21.total_refusal
 above_is_21 root h = rw (le-ltb (total root) (2 ^ 64) h)
 
 module _ {profile : Profile} (proper : Proper profile) where
-  -- where neither 5 nor the walk of 6 to 8 and 28 refuses anything, 21 does not
-  never_refused : (root : Element) → limits_refusal root ≡ none → values_refusal profile root ≡ none → with_21.total_refusal root ≡ none
-  unfolding with_21.total_refusal
-  never_refused root limits values =
-      let most = total_at_most proper root limits values in
-      rw (lt-ltb (total root) (2 ^ 64) (omega (arith, most)))
-
   tree_same : (root : Element) → with_21.tree_refusal profile root ≡ tree_refusal profile root
   unfolding with_21.tree_refusal tree_refusal ◌or_else◌
   tree_same root = go (rows_refusal profile root) (limits_refusal root) (values_refusal profile root) refl refl
@@ -46,7 +39,7 @@ module _ {profile : Profile} (proper : Proper profile) where
       go (some r) of_limits of_values l v = refl
       go none (some r) of_values l v = refl
       go none none (some r) l v = refl
-      go none none none l v = rw (never_refused root l v)
+      go none none none l v = rw (never_refused proper root l v)
 
   alone_same : (s : List ℕ) → outcome_alone profile s ≡ with_21.outcome_alone profile s
   unfolding outcome_alone with_21.outcome_alone
