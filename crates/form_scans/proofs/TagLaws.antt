@@ -19,7 +19,7 @@ use Rattle.form_scans.specs.Scans.{from, Word, Letters, Capitals, CapitalAt, end
 use Rattle.form_scans.specs.declared.Scan.{Scan}
 use Rattle.form_scans.specs.declared.Scan.TheVariants.{To, StopsAt}
 use Rattle.paper_grammar.proofs.Tags.{same_true, close_name}
-use Rattle.paper_grammar.proofs.Decides.{open_amount}
+use Rattle.paper_grammar.proofs.Stops.{open_amount}
 use Rattle.form_scans.proofs.Laws.{from_next, from_stuck, from_short, no_to, went, halts, first, via, giving, giving_at, chain}
 
 -- letters of a currency
