@@ -136,12 +136,12 @@ module _ {A : Type 0} (same : A → A → Bool) (says : (a b : A) → same a b �
       go false true e = e
       go false false e = e
 
-  getD_without : (d : A) (i o : ℕ) (l : List A) → i < length l → get_or (without i l) o d ≡ get_or l (up i o) d
+  get_or-without : (d : A) (i o : ℕ) (l : List A) → i < length l → get_or (without i l) o d ≡ get_or l (up i o) d
   unfolding without up
-  getD_without d i o [] h = absurd (omega arith)
-  getD_without d zero o (a ∷ l) h = rw (le-ltb o 0 (omega arith))
-  getD_without d (suc i) zero (a ∷ l) h = rw (lt-ltb 0 (suc i) (omega arith))
-  getD_without d (suc i) (suc o) (a ∷ l) h = go (ltb o i) refl (getD_without d i o l (omega arith))
+  get_or-without d i o [] h = absurd (omega arith)
+  get_or-without d zero o (a ∷ l) h = rw (le-ltb o 0 (omega arith))
+  get_or-without d (suc i) zero (a ∷ l) h = rw (lt-ltb 0 (suc i) (omega arith))
+  get_or-without d (suc i) (suc o) (a ∷ l) h = go (ltb o i) refl (get_or-without d i o l (omega arith))
     where
       go : (t : Bool) → ltb o i ≡ t → get_or (without i l) o d ≡ get_or l (if ltb o i then o else suc o) d
           → get_or (without i l) o d ≡ get_or (a ∷ l) (if ltb (suc o) (suc i) then suc o else suc (suc o)) d
@@ -163,11 +163,11 @@ module _ {A : Type 0} (same : A → A → Bool) (says : (a b : A) → same a b �
       → Names d (without o xs) (map (down o) os) ys
   names_down d xs o h all_none names_none = names_none
   names_down d xs o h (all_more {a = p} n k) (names_more e m) =
-      names_more (getD_without d o (down o p) xs h ∙ ap (λ (i : ℕ). get_or xs i d) (up_down o p n) ∙ e) (names_down d xs o h k m)
+      names_more (get_or-without d o (down o p) xs h ∙ ap (λ (i : ℕ). get_or xs i d) (up_down o p n) ∙ e) (names_down d xs o h k m)
 
   names_up : (d : A) (xs : List A) (o : ℕ) → o < length xs → {os : List ℕ} {ys : List A} → Names d (without o xs) os ys → Names d xs (map (up o) os) ys
   names_up d xs o h names_none = names_none
-  names_up d xs o h (names_more {o = p} e m) = names_more (sym (getD_without d o p xs h) ∙ e) (names_up d xs o h m)
+  names_up d xs o h (names_more {o = p} e m) = names_more (sym (get_or-without d o p xs h) ∙ e) (names_up d xs o h m)
 
   -- A pairing without its first pair, and with one more.
   pairs_rest : (d : A) (xs : List A) (o : ℕ) (os : List ℕ) (y : A) (ys : List A) → Pairs d xs (o ∷ os) (y ∷ ys)
