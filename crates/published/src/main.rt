@@ -6,6 +6,8 @@
 ghost use Rattle.std.specs.Prelude.{◌<◌, length};
 
 use paper::Profile;
+use std::io;
+use std::rt::Files;
 
 fn in_profile(instant: bool, archived: bool) -> Profile {
     Profile { instant, archived }
@@ -26,20 +28,25 @@ fn is_archived_too(kind: u8) -> bool {
 }
 
 // The verdict of the message at an offset. Answers the offset of the next case.
-fn verdict_at(profile: Profile, s: &[u8], at: usize, table: &mut [u32]) -> usize {
+fn verdict_at(
+    rt: &impl Print,
+    profile: Profile,
+    s: &[u8],
+    at: usize,
+    table: &mut [u32],
+) -> io::Result<usize> {
     let message = run_frames::part_at(s, at);
     let a = message.start;
     let b = message.end;
-    run_printing::message(verdict_answers::of_message(verdict_reader::verdict(
-        profile,
-        &s[a..b],
-        table,
-    )));
-    b + 2
+    run_printing::message(
+        rt,
+        verdict_answers::of_message(verdict_reader::verdict(profile, &s[a..b], table)),
+    )?;
+    Ok(b + 2)
 }
 
 // The regrouping of the parts at an offset. Answers the offset of the next case.
-fn regrouping_at(profile: Profile, s: &[u8], at: usize) -> usize {
+fn regrouping_at(rt: &impl Print, profile: Profile, s: &[u8], at: usize) -> io::Result<usize> {
     let first = run_frames::part_at(s, at);
     let a = first.start;
     let b = first.end;
@@ -49,86 +56,99 @@ fn regrouping_at(profile: Profile, s: &[u8], at: usize) -> usize {
     let list = run_frames::part_at(s, d + 1);
     let e = list.start;
     let f = list.end;
-    run_printing::regrouping(verdict_answers::of_regrouping(move_regrouping::regroup(
-        profile,
-        &s[a..b],
-        &s[c..d],
-        &s[e..f],
-    )));
-    f + 2
+    let answer = move_regrouping::regroup(profile, &s[a..b], &s[c..d], &s[e..f]);
+    run_printing::regrouping(rt, verdict_answers::of_regrouping(answer))?;
+    Ok(f + 2)
 }
 
 // The answer to the case at an offset, after its name and some more words. Answers the offset of the next case.
-fn answer_at(profile: Profile, words: &[u8], s: &[u8], at: usize, table: &mut [u32]) -> usize
+fn answer_at(
+    rt: &impl Print,
+    profile: Profile,
+    words: &[u8],
+    s: &[u8],
+    at: usize,
+    table: &mut [u32],
+) -> io::Result<usize>
     requires { at < length s.now }
 {
     let kind = s[at];
     let name = run_frames::part_at(s, at + 1);
     let a = name.start;
     let b = name.end;
-    run_printing::text(&s[a..b]);
-    run_printing::text(words);
+    run_printing::text(rt, &s[a..b])?;
+    run_printing::text(rt, words)?;
     if is_regrouping(kind) {
-        return regrouping_at(profile, s, b + 1);
+        return regrouping_at(rt, profile, s, b + 1);
     }
-    verdict_at(profile, s, b + 1, table)
+    verdict_at(rt, profile, s, b + 1, table)
 }
 
 // The answers to the case at an offset in both profiles. Answers the offset of the next case.
 fn in_both(
+    rt: &impl Print,
     archived: bool,
     first: &[u8],
     instant: &[u8],
     s: &[u8],
     at: usize,
     table: &mut [u32],
-) -> usize
+) -> io::Result<usize>
     requires { at < length s.now }
 {
-    answer_at(in_profile(false, archived), first, s, at, table);
-    answer_at(in_profile(true, archived), instant, s, at, table)
+    answer_at(rt, in_profile(false, archived), first, s, at, table)?;
+    answer_at(rt, in_profile(true, archived), instant, s, at, table)
 }
 
 // The case at an offset. Answers the offset of the next.
-fn case_at(s: &[u8], at: usize, table: &mut [u32]) -> usize
+fn case_at(rt: &impl Print, s: &[u8], at: usize, table: &mut [u32]) -> io::Result<usize>
     requires { at < length s.now }
 {
-    let next = in_both(false, b": ", b", instant: ", s, at, table);
+    let next = in_both(rt, false, b": ", b", instant: ", s, at, table)?;
     if is_archived_too(s[at]) {
         in_both(
+            rt,
             true,
             b", archived: ",
             b", instant, archived: ",
             s,
             at,
             table,
-        );
+        )?;
     }
-    next
+    Ok(next)
 }
 
-fn run(s: &[u8], table: &mut [u32]) {
+fn run(rt: &impl Print, s: &[u8], table: &mut [u32]) -> io::Result<()> {
     let mut at = 0;
     let mut turns: u32 = 10000;
     while turns > 0 {
         if at >= s.len() {
-            return;
+            return Ok(());
         }
-        at = case_at(s, at, table);
+        at = case_at(rt, s, at, table)?;
         turns -= 1;
     }
+    Ok(())
 }
 
-fn run_file(path: &[u8], buffer: &mut [u8], table: &mut [u32]) {
-    let n = run_frames::load(path, buffer);
-    run(&buffer[..n], table);
+fn run_file<R: Files + Print>(
+    rt: &R,
+    errors: &impl Print,
+    path: &[u8],
+    buffer: &mut [u8],
+    table: &mut [u32],
+) -> io::Result<()> {
+    let n = run_frames::load(rt, errors, path, buffer)?;
+    run(rt, &buffer[..n], table)
 }
 
-fn main() {
-    let mut buffer = io::large_buffer();
+fn main(rt: HostRuntime) -> io::Result<()> {
+    let errors = rt.stderr();
+    let mut buffer = [0u8; 65536];
     let mut table = [0u32; paper::LEAST_TABLE];
-    run_file(b"whole-6.1", &mut buffer, &mut table);
-    run_file(b"whole-6.2", &mut buffer, &mut table);
-    run_file(b"snippets", &mut buffer, &mut table);
-    run_file(b"regroupings", &mut buffer, &mut table);
+    run_file(&rt, &errors, b"whole-6.1", &mut buffer, &mut table)?;
+    run_file(&rt, &errors, b"whole-6.2", &mut buffer, &mut table)?;
+    run_file(&rt, &errors, b"snippets", &mut buffer, &mut table)?;
+    run_file(&rt, &errors, b"regroupings", &mut buffer, &mut table)
 }

@@ -2,43 +2,53 @@
 // both messages in the instant profile, with the word `archived` the first as an archived one.
 #![tactic(auto)]
 
-ghost use Rattle.io.specs.Counts.{IsPrefixLen};
+ghost use Rattle.std.specs.Io.{ReadsAtMost};
 
 use paper::Profile;
+use std::io;
+use std::rt::Files;
 
 // What the file holds, as much as the buffer takes; nothing where it can't be opened.
-fn load(path: &[u8], buf: &mut [u8]) -> usize
-    ensures { IsPrefixLen result buf.new }
+fn load<R: Files>(rt: &R, path: &[u8], buf: &mut [u8]) -> io::Result<usize>
+    ensures { ReadsAtMost result buf.new }
 {
-    let fd = os::open_read(path);
-    let n = io::read_full(fd, buf);
-    libc::close(fd);
-    n
+    match run_reading::open(rt, path) {
+        Ok(mut file) => run_reading::fill(&mut file, buf),
+        Err(_) => Ok(0),
+    }
 }
 
-fn report(profile: Profile, first: &[u8], second: &[u8], list: &[u8]) {
-    run_printing::regrouping(verdict_answers::of_regrouping(move_regrouping::regroup(
-        profile, first, second, list,
-    )));
+fn report(
+    rt: &impl Print,
+    profile: Profile,
+    first: &[u8],
+    second: &[u8],
+    list: &[u8],
+) -> io::Result<()> {
+    run_printing::regrouping(
+        rt,
+        verdict_answers::of_regrouping(move_regrouping::regroup(profile, first, second, list)),
+    )
 }
 
-fn answer(profile: Profile) {
+fn answer<R: Files + Print>(rt: &R, profile: Profile) -> io::Result<()> {
     let mut first = [0u8; 32769];
     let mut second = [0u8; 32769];
     let mut list = [0u8; 131078];
-    let n = load(b"first.xml", &mut first);
-    let m = load(b"second.xml", &mut second);
-    let l = load(b"list.rgl", &mut list);
-    report(profile, &first[..n], &second[..m], &list[..l]);
+    let n = load(rt, b"first.xml", &mut first)?;
+    let m = load(rt, b"second.xml", &mut second)?;
+    let l = load(rt, b"list.rgl", &mut list)?;
+    report(rt, profile, &first[..n], &second[..m], &list[..l])
 }
 
-fn main() {
+fn main(rt: HostRuntime) -> io::Result<()> {
     let own = Profile {
         instant: false,
         archived: false,
     };
-    let asked = run_words::asked(own, true);
+    let asked = run_words::asked(&rt, &rt.stderr(), own, true)?;
     if asked.known {
-        answer(asked.profile);
+        answer(&rt, asked.profile)?;
     }
+    Ok(())
 }

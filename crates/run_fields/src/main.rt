@@ -7,37 +7,47 @@
 ghost use Rattle.std.specs.Prelude.{◌<◌, length};
 
 use paper::Profile;
+use std::io;
 
 // `8 "Study 12"`
-fn quoted(s: &[u8]) {
-    run_printing::number(s.len() as u64);
-    run_printing::text(b" \"");
-    run_printing::text(s);
-    run_printing::text(b"\"");
+fn quoted(rt: &impl Print, s: &[u8]) -> io::Result<()> {
+    run_printing::number(rt, s.len() as u64)?;
+    run_printing::text(rt, b" \"")?;
+    run_printing::text(rt, s)?;
+    run_printing::text(rt, b"\"")
 }
 
-fn field_line(profile: Profile, name: &[u8], message: &[u8], payment: usize, field: usize) {
-    run_printing::text(name);
-    run_printing::text(b", payment ");
-    run_printing::number(payment as u64);
-    run_printing::text(b", field ");
-    run_printing::number(field as u64);
-    run_printing::text(b": ");
-    quoted(verdict_reader::field(profile, message, payment, field));
-    run_printing::text(b"\n");
+fn field_line(
+    rt: &impl Print,
+    profile: Profile,
+    name: &[u8],
+    message: &[u8],
+    payment: usize,
+    field: usize,
+) -> io::Result<()> {
+    run_printing::text(rt, name)?;
+    run_printing::text(rt, b", payment ")?;
+    run_printing::number(rt, payment as u64)?;
+    run_printing::text(rt, b", field ")?;
+    run_printing::number(rt, field as u64)?;
+    run_printing::text(rt, b": ")?;
+    quoted(rt, verdict_reader::field(profile, message, payment, field))?;
+    run_printing::text(rt, b"\n")
 }
 
 fn each_field(
+    rt: &impl Print,
     profile: Profile,
     name: &[u8],
     message: &[u8],
     payment: usize,
     first: usize,
     last: usize,
-) {
+) -> io::Result<()> {
     for field in first..=last {
-        field_line(profile, name, message, payment, field);
+        field_line(rt, profile, name, message, payment, field)?;
     }
+    Ok(())
 }
 
 fn profile_of(number: usize, archived: bool) -> Profile {
@@ -48,7 +58,13 @@ fn profile_of(number: usize, archived: bool) -> Profile {
 }
 
 // The fields of the message at an offset, from the first to the last that are asked for. Answers the offset of the next case.
-fn fields_of(profile: Profile, s: &[u8], name: &[u8], at: usize) -> usize {
+fn fields_of(
+    rt: &impl Print,
+    profile: Profile,
+    s: &[u8],
+    name: &[u8],
+    at: usize,
+) -> io::Result<usize> {
     let payment = run_frames::number_at(s, at);
     let first = run_frames::number_at(s, payment.next);
     let last = run_frames::number_at(s, first.next);
@@ -56,47 +72,68 @@ fn fields_of(profile: Profile, s: &[u8], name: &[u8], at: usize) -> usize {
     let a = message.start;
     let b = message.end;
     each_field(
+        rt,
         profile,
         name,
         &s[a..b],
         payment.value,
         first.value,
         last.value,
-    );
-    b + 2
+    )?;
+    Ok(b + 2)
 }
 
 // The fields that the case at an offset asks for. Answers the offset of the next case.
-fn fields_at(archived: bool, s: &[u8], name: &[u8], at: usize) -> usize {
+fn fields_at(
+    rt: &impl Print,
+    archived: bool,
+    s: &[u8],
+    name: &[u8],
+    at: usize,
+) -> io::Result<usize> {
     let number = run_frames::number_at(s, at);
-    fields_of(profile_of(number.value, archived), s, name, number.next)
+    let profile = profile_of(number.value, archived);
+    fields_of(rt, profile, s, name, number.next)
 }
 
 fn regrouping_line(
+    rt: &impl Print,
     profile: Profile,
     name: &[u8],
     way: &[u8],
     first: &[u8],
     second: &[u8],
     list: &[u8],
-) {
-    run_printing::text(name);
-    run_printing::text(way);
-    quoted(move_regrouping::differing(profile, first, second, list));
-    run_printing::text(b" ");
-    run_printing::regrouping(verdict_answers::of_regrouping(move_regrouping::regroup(
-        profile, first, second, list,
-    )));
+) -> io::Result<()> {
+    run_printing::text(rt, name)?;
+    run_printing::text(rt, way)?;
+    quoted(rt, move_regrouping::differing(profile, first, second, list))?;
+    run_printing::text(rt, b" ")?;
+    let answer = move_regrouping::regroup(profile, first, second, list);
+    run_printing::regrouping(rt, verdict_answers::of_regrouping(answer))
 }
 
 // The second regrouped from the first, and the first from the second.
-fn both_ways(profile: Profile, name: &[u8], first: &[u8], second: &[u8], list: &[u8]) {
-    regrouping_line(profile, name, b": ", first, second, list);
-    regrouping_line(profile, name, b", back: ", second, first, list);
+fn both_ways(
+    rt: &impl Print,
+    profile: Profile,
+    name: &[u8],
+    first: &[u8],
+    second: &[u8],
+    list: &[u8],
+) -> io::Result<()> {
+    regrouping_line(rt, profile, name, b": ", first, second, list)?;
+    regrouping_line(rt, profile, name, b", back: ", second, first, list)
 }
 
 // The regroupings of the parts at an offset. Answers the offset of the next case.
-fn each_way(profile: Profile, s: &[u8], name: &[u8], at: usize) -> usize {
+fn each_way(
+    rt: &impl Print,
+    profile: Profile,
+    s: &[u8],
+    name: &[u8],
+    at: usize,
+) -> io::Result<usize> {
     let first = run_frames::part_at(s, at);
     let a = first.start;
     let b = first.end;
@@ -106,18 +143,25 @@ fn each_way(profile: Profile, s: &[u8], name: &[u8], at: usize) -> usize {
     let list = run_frames::part_at(s, d + 1);
     let e = list.start;
     let f = list.end;
-    both_ways(profile, name, &s[a..b], &s[c..d], &s[e..f]);
-    f + 2
+    both_ways(rt, profile, name, &s[a..b], &s[c..d], &s[e..f])?;
+    Ok(f + 2)
 }
 
 // The regroupings that the case at an offset asks for. Answers the offset of the next case.
-fn regroupings_at(archived: bool, s: &[u8], name: &[u8], at: usize) -> usize {
+fn regroupings_at(
+    rt: &impl Print,
+    archived: bool,
+    s: &[u8],
+    name: &[u8],
+    at: usize,
+) -> io::Result<usize> {
     let number = run_frames::number_at(s, at);
-    each_way(profile_of(number.value, archived), s, name, number.next)
+    let profile = profile_of(number.value, archived);
+    each_way(rt, profile, s, name, number.next)
 }
 
 // The case at an offset. Answers the offset of the next.
-fn case_at(archived: bool, s: &[u8], at: usize) -> usize
+fn case_at(rt: &impl Print, archived: bool, s: &[u8], at: usize) -> io::Result<usize>
     requires { at < length s.now }
 {
     let kind = s[at];
@@ -125,27 +169,29 @@ fn case_at(archived: bool, s: &[u8], at: usize) -> usize
     let a = name.start;
     let b = name.end;
     if kind == b'D' {
-        return regroupings_at(archived, s, &s[a..b], b + 1);
+        return regroupings_at(rt, archived, s, &s[a..b], b + 1);
     }
-    fields_at(archived, s, &s[a..b], b + 1)
+    fields_at(rt, archived, s, &s[a..b], b + 1)
 }
 
-fn run(archived: bool, s: &[u8]) {
+fn run(rt: &impl Print, archived: bool, s: &[u8]) -> io::Result<()> {
     let mut at = 0;
     let mut turns: u32 = 10000;
     while turns > 0 {
         if at >= s.len() {
-            return;
+            return Ok(());
         }
-        at = case_at(archived, s, at);
+        at = case_at(rt, archived, s, at)?;
         turns -= 1;
     }
+    Ok(())
 }
 
-fn main() {
+fn main(rt: HostRuntime) -> io::Result<()> {
+    let errors = rt.stderr();
     let mut buffer = [0u8; 262144];
-    let n = run_frames::load(b"cases", &mut buffer);
-    run(false, &buffer[..n]);
-    let m = run_frames::load(b"archived", &mut buffer);
-    run(true, &buffer[..m]);
+    let n = run_frames::load(&rt, &errors, b"cases", &mut buffer)?;
+    run(&rt, false, &buffer[..n])?;
+    let m = run_frames::load(&rt, &errors, b"archived", &mut buffer)?;
+    run(&rt, true, &buffer[..m])
 }

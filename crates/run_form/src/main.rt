@@ -6,7 +6,7 @@
 ghost use Rattle.std.specs.Prelude.{◌≤◌};
 
 use form::Form;
-use libc::STDOUT_FILENO;
+use std::io;
 use tree::Tree;
 
 // 1 if a text is refused because it ends too early, otherwise 0.
@@ -30,51 +30,50 @@ fn early(s: &[u8], tree: &mut Tree) -> usize {
     n
 }
 
-fn show(name: &[u8], s: &[u8], tree: &mut Tree) {
-    io::write_all(STDOUT_FILENO, name);
+fn show(rt: &impl Print, name: &[u8], s: &[u8], tree: &mut Tree) -> io::Result<()> {
+    rt.write_all(name)?;
     match form::form_of(s, tree) {
-        Form::OfTheForm => {
-            io::write_all(STDOUT_FILENO, b": of the form; ");
-        }
+        Form::OfTheForm => rt.write_all(b": of the form; ")?,
         Form::RefusedAt(n) => {
-            io::write_all(STDOUT_FILENO, b": refused at ");
-            io::print_decimal(STDOUT_FILENO, n as u64);
-            io::write_all(STDOUT_FILENO, b"; ");
+            rt.write_all(b": refused at ")?;
+            rt.print(n)?;
+            rt.write_all(b"; ")?;
         }
     }
-    io::print_decimal(STDOUT_FILENO, early(s, tree) as u64);
-    io::write_all(STDOUT_FILENO, b" of ");
-    io::print_decimal(STDOUT_FILENO, s.len() as u64);
-    io::write_all(STDOUT_FILENO, b" beginnings end too early\n");
+    rt.print(early(s, tree))?;
+    rt.write_all(b" of ")?;
+    rt.print(s.len())?;
+    rt.write_all(b" beginnings end too early\n")
 }
 
 // The case at an offset. Answers the offset of the next.
-fn case_at(s: &[u8], at: usize, tree: &mut Tree) -> usize {
+fn case_at(rt: &impl Print, s: &[u8], at: usize, tree: &mut Tree) -> io::Result<usize> {
     let name = run_frames::part_at(s, at);
     let a = name.start;
     let b = name.end;
     let text = run_frames::part_at(s, b + 1);
     let c = text.start;
     let d = text.end;
-    show(&s[a..b], &s[c..d], tree);
-    d + 2
+    show(rt, &s[a..b], &s[c..d], tree)?;
+    Ok(d + 2)
 }
 
-fn run(s: &[u8], tree: &mut Tree) {
+fn run(rt: &impl Print, s: &[u8], tree: &mut Tree) -> io::Result<()> {
     let mut at = 0;
     let mut turns: u32 = 10000;
     while turns > 0 {
         if at >= s.len() {
-            return;
+            return Ok(());
         }
-        at = case_at(s, at, tree);
+        at = case_at(rt, s, at, tree)?;
         turns -= 1;
     }
+    Ok(())
 }
 
-fn main() {
-    let mut buffer = io::large_buffer();
-    let n = run_frames::load(b"cases", &mut buffer);
+fn main(rt: HostRuntime) -> io::Result<()> {
+    let mut buffer = [0u8; 65536];
+    let n = run_frames::load(&rt, &rt.stderr(), b"cases", &mut buffer)?;
     let mut tree = [0u16; tree::NUMBERS];
-    run(&buffer[..n], &mut tree);
+    run(&rt, &buffer[..n], &mut tree)
 }

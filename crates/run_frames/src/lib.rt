@@ -2,7 +2,11 @@
 #![tactic(auto)]
 
 ghost use Rattle.std.specs.Prelude.{◌≤◌, length};
-ghost use Rattle.io.specs.Counts.{IsPrefixLen};
+ghost use Rattle.std.specs.Io.{ReadsAtMost};
+
+use std::io;
+use std::io::{Cursor, Write};
+use std::rt::Files;
 
 // Where the bytes of a part stand in the file.
 #[derive(Drop)]
@@ -18,18 +22,43 @@ pub struct Numbered {
     pub next: usize,
 }
 
-// What a file of cases holds, as much as the buffer takes; nothing, and a line on standard error, where it can't be opened.
-pub fn load(path: &[u8], buffer: &mut [u8]) -> usize
-    ensures { IsPrefixLen result buffer.new }
-{
-    let file = os::open_read(path);
-    if file < 0 {
-        os::fail(path);
-        return 0;
+// Says why a file can't be opened, in the system's words, without the number that stands in brackets behind them.
+fn say_why(errors: &impl Print, e: &io::Error) -> io::Result<()> {
+    let mut said = Cursor::new([0u8; 320]);
+    write!(said, "{e}")?;
+    let text = said.into_inner();
+    let mut end = 0;
+    while end < text.len() {
+        if text[end] == 0 {
+            break;
+        }
+        if text[end..].starts_with(b" (os error ") {
+            break;
+        }
+        end += 1;
     }
-    let n = io::read_full(file, buffer);
-    libc::close(file);
-    n
+    errors.write_all(&text[..end])
+}
+
+// What a file of cases holds, as much as the buffer takes; nothing, and a line on standard error, where it can't be opened.
+pub fn load<R: Files>(
+    rt: &R,
+    errors: &impl Print,
+    path: &[u8],
+    buffer: &mut [u8],
+) -> io::Result<usize>
+    ensures { ReadsAtMost result buffer.new }
+{
+    match run_reading::open(rt, path) {
+        Ok(mut file) => run_reading::fill(&mut file, buffer),
+        Err(e) => {
+            errors.write_all(path)?;
+            errors.write_all(b": ")?;
+            say_why(errors, &e)?;
+            errors.write_all(b"\n")?;
+            Ok(0)
+        }
+    }
 }
 
 fn digits_end(s: &[u8], at: usize) -> usize

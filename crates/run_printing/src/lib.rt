@@ -1,72 +1,69 @@
 // The lines that the programs write, as docs/RULES.md (11) shows them.
 #![tactic(auto)]
 
-use libc::STDOUT_FILENO;
+use std::io;
 use verdict_answers::{OfMessage, OfRegrouping};
 
-pub fn text(s: &[u8]) {
-    io::write_all(STDOUT_FILENO, s);
+pub fn text(rt: &impl Print, s: &[u8]) -> io::Result<()> {
+    rt.write_all(s)
 }
 
-pub fn number(n: u64) {
-    io::print_decimal(STDOUT_FILENO, n);
+pub fn number(rt: &impl Print, n: u64) -> io::Result<()> {
+    rt.print(n)
 }
 
 // A part of the message, as much of it as there is.
-pub fn part(s: &[u8], start: usize, size: usize) {
+pub fn part(rt: &impl Print, s: &[u8], start: usize, size: usize) -> io::Result<()> {
     if s.len() < start {
-        return;
+        return Ok(());
     }
     if s.len() - start < size {
-        return;
+        return Ok(());
     }
     let end = start + size;
-    text(&s[start..end]);
+    text(rt, &s[start..end])
 }
 
-fn said(name: &[u8], n: u64) {
-    text(name);
-    number(n);
+fn said(rt: &impl Print, name: &[u8], n: u64) -> io::Result<()> {
+    text(rt, name)?;
+    number(rt, n)
 }
 
 // `REFUSED 12 element=6 offset=147`
-fn refused(n: u64, element: u64, offset: u64) {
-    said(b"REFUSED ", n);
-    said(b" element=", element);
-    said(b" offset=", offset);
-    text(b"\n");
+fn refused(rt: &impl Print, n: u64, element: u64, offset: u64) -> io::Result<()> {
+    said(rt, b"REFUSED ", n)?;
+    said(rt, b" element=", element)?;
+    said(rt, b" offset=", offset)?;
+    text(rt, b"\n")
 }
 
 // The same, or `ACCEPTED blocks=2 payments=2 cents=3510`.
-pub fn message(answer: OfMessage) {
+pub fn message(rt: &impl Print, answer: OfMessage) -> io::Result<()> {
     if answer.number > 0 {
-        refused(answer.number, answer.element, answer.offset);
-        return;
+        return refused(rt, answer.number, answer.element, answer.offset);
     }
-    said(b"ACCEPTED blocks=", answer.blocks);
-    said(b" payments=", answer.payments);
-    said(b" cents=", answer.cents);
-    text(b"\n");
+    said(rt, b"ACCEPTED blocks=", answer.blocks)?;
+    said(rt, b" payments=", answer.payments)?;
+    said(rt, b" cents=", answer.cents)?;
+    text(rt, b"\n")
 }
 
 // `FIRST REFUSED 12 element=6 offset=147`, or `SECOND` with the like, `REFUSED 20 k=1 field=13`, or `ACCEPTED`.
-pub fn regrouping(answer: OfRegrouping) {
+pub fn regrouping(rt: &impl Print, answer: OfRegrouping) -> io::Result<()> {
     if answer.whose == 1 {
-        text(b"FIRST ");
+        text(rt, b"FIRST ")?;
     }
     if answer.whose == 2 {
-        text(b"SECOND ");
+        text(rt, b"SECOND ")?;
     }
     if answer.whose > 0 {
-        refused(answer.number, answer.element, answer.offset);
-        return;
+        return refused(rt, answer.number, answer.element, answer.offset);
     }
     if answer.number == 0 {
-        text(b"ACCEPTED\n");
-        return;
+        return text(rt, b"ACCEPTED\n");
     }
-    said(b"REFUSED ", answer.number);
-    said(b" k=", answer.k);
-    said(b" field=", answer.field);
-    text(b"\n");
+    said(rt, b"REFUSED ", answer.number)?;
+    said(rt, b" k=", answer.k)?;
+    said(rt, b" field=", answer.field)?;
+    text(rt, b"\n")
 }

@@ -2,64 +2,65 @@
 // length, currency and text, in fixed columns; or `=` and an account, each character of which is changed to every other capital or digit.
 #![tactic(auto)]
 
-ghost use Rattle.std.specs.Prelude.{◌≤◌, ◌<◌, length};
+ghost use Rattle.std.specs.Prelude.{◌≤◌, ◌<◌, length, IfOk};
 
 use leaf_values::Judgement;
-use libc::STDOUT_FILENO;
+use std::io;
+use std::io::Input;
 
-fn say(text: &[u8]) {
-    io::write_all(STDOUT_FILENO, text);
+fn say(rt: &impl Print, text: &[u8]) -> io::Result<()> {
+    rt.write_all(text)
 }
 
 // Prints the answer on a line's value, of which nothing is known before, and the line.
-fn judge(line: &[u8]) {
+fn judge(rt: &impl Print, line: &[u8]) -> io::Result<()> {
     if line.len() < 14 {
-        return;
+        return Ok(());
     }
     let row = leaf_numbers::number(&line[0..2]) as usize;
     let parent = leaf_numbers::number(&line[3..5]) as usize;
     let longest = leaf_numbers::number(&line[6..9]) as usize;
     match leaf_values::leaf(parent, row, longest, &line[10..13], &line[14..], 0) {
-        Judgement::Fine => say(b"fine "),
-        Judgement::EmptyOrTooLong => say(b"6 "),
+        Judgement::Fine => say(rt, b"fine ")?,
+        Judgement::EmptyOrTooLong => say(rt, b"6 ")?,
         Judgement::NotInTheSet { at } => {
-            say(b"7@");
-            io::print_decimal(STDOUT_FILENO, at as u64);
-            say(b" ");
+            say(rt, b"7@")?;
+            rt.print(at)?;
+            say(rt, b" ")?;
         }
-        Judgement::NotAllowed => say(b"8 "),
+        Judgement::NotAllowed => say(rt, b"8 ")?,
     }
-    say(line);
-    say(b"\n");
+    say(rt, line)?;
+    say(rt, b"\n")
 }
 
 // Prints the text where it is an account.
-fn report(w: &[u8]) -> u64
-    ensures { result ≤ 1 }
+fn report(rt: &impl Print, w: &[u8]) -> io::Result<u64>
+    ensures { IfOk result (λ n. n ≤ 1) }
 {
     if !leaf_accounts::iban(w) {
-        return 0;
+        return Ok(0);
     }
-    say(w);
-    say(b"\n");
-    1
+    say(rt, w)?;
+    say(rt, b"\n")?;
+    Ok(1)
 }
 
 // The account with another character at a place.
-fn changed(w: &mut [u8], i: usize, c: u8) -> u64
-    ensures { result ≤ 1 }
+fn changed(rt: &impl Print, w: &mut [u8], i: usize, c: u8) -> io::Result<u64>
+    ensures { IfOk result (λ n. n ≤ 1) }
 {
     if w.len() <= i {
-        return 0;
+        return Ok(0);
     }
     let own = w[i];
     if own == c {
-        return 0;
+        return Ok(0);
     }
     w[i] = c;
-    let n = report(w);
+    let n = report(rt, w)?;
     w[i] = own;
-    n
+    Ok(n)
 }
 
 // The capitals and then the digits.
@@ -73,29 +74,29 @@ fn nth(k: u8) -> u8 {
     b'0'
 }
 
-fn changed_to_all(w: &mut [u8], i: usize) -> u64
-    ensures { result ≤ 36 }
+fn changed_to_all(rt: &impl Print, w: &mut [u8], i: usize) -> io::Result<u64>
+    ensures { IfOk result (λ n. n ≤ 36) }
 {
     let mut n: u64 = 0;
     let mut k: u8 = 0;
     while k < 36 {
-        n = n + changed(w, i, nth(k));
+        n = n + changed(rt, w, i, nth(k))?;
         k += 1;
     }
-    n
+    Ok(n)
 }
 
-fn changed_everywhere(w: &mut [u8]) -> u64 {
+fn changed_everywhere(rt: &impl Print, w: &mut [u8]) -> io::Result<u64> {
     let mut n: u64 = 0;
     let mut i = 0;
     while i < w.len() {
         if i == 34 {
-            return n;
+            return Ok(n);
         }
-        n = n + changed_to_all(w, i);
+        n = n + changed_to_all(rt, w, i)?;
         i += 1;
     }
-    n
+    Ok(n)
 }
 
 // Copies what fits.
@@ -110,29 +111,28 @@ fn copy(w: &mut [u8], s: &[u8]) {
     }
 }
 
-fn neighbours(s: &[u8]) {
+fn neighbours(rt: &impl Print, s: &[u8]) -> io::Result<()> {
     let mut w = [0u8; 34];
     let size = s.len();
     if 34 < size {
-        return;
+        return Ok(());
     }
     copy(&mut w, s);
-    let n = changed_everywhere(&mut w[..size]);
-    io::print_decimal(STDOUT_FILENO, n);
-    say(b" accounts beside ");
-    say(s);
-    say(b"\n");
+    let n = changed_everywhere(rt, &mut w[..size])?;
+    rt.print(n)?;
+    say(rt, b" accounts beside ")?;
+    say(rt, s)?;
+    say(rt, b"\n")
 }
 
-fn line(s: &[u8]) {
+fn line(rt: &impl Print, s: &[u8]) -> io::Result<()> {
     if s.len() < 1 {
-        return;
+        return Ok(());
     }
     if s[0] == b'=' {
-        neighbours(&s[1..]);
-        return;
+        return neighbours(rt, &s[1..]);
     }
-    judge(s);
+    judge(rt, s)
 }
 
 // Where the line that starts here ends.
@@ -150,17 +150,18 @@ fn end_of(s: &[u8], start: usize) -> usize
     i
 }
 
-fn lines(s: &[u8]) {
+fn lines(rt: &impl Print, s: &[u8]) -> io::Result<()> {
     let mut at = 0;
     while at < s.len() {
         let end = end_of(s, at);
-        line(&s[at..end]);
+        line(rt, &s[at..end])?;
         at = end + 1;
     }
+    Ok(())
 }
 
-fn main() {
-    let mut buf = io::large_buffer();
-    let n = io::read_full(0, &mut buf);
-    lines(&buf[..n]);
+fn main(rt: HostRuntime) -> io::Result<()> {
+    let mut buf = [0u8; 65536];
+    let n = run_reading::fill(&mut rt.reader(), &mut buf)?;
+    lines(&rt, &buf[..n])
 }

@@ -2,8 +2,9 @@
 // and end-to-end id.
 #![tactic(auto)]
 
-use libc::STDIN_FILENO;
 use paper::Profile;
+use std::io;
+use std::io::Input;
 
 fn wide(x: u32) -> u64 {
     x as u64
@@ -25,12 +26,20 @@ fn number(table: &[u32], i: usize, k: usize) -> u64 {
 }
 
 // The part of the message whose start and length are numbers `start` and `size` of payment i.
-fn part(message: &[u8], table: &[u32], i: usize, start: usize, size: usize) {
+fn part(
+    rt: &impl Print,
+    message: &[u8],
+    table: &[u32],
+    i: usize,
+    start: usize,
+    size: usize,
+) -> io::Result<()> {
     run_printing::part(
+        rt,
         message,
         number(table, i, start) as usize,
         number(table, i, size) as usize,
-    );
+    )
 }
 
 fn cents(table: &[u32], i: usize) -> u64 {
@@ -45,40 +54,38 @@ fn cents(table: &[u32], i: usize) -> u64 {
     euros * 100 + rest
 }
 
-fn payment(message: &[u8], table: &[u32], i: usize) {
-    run_printing::number(i as u64);
-    run_printing::text(b" ");
-    run_printing::number(number(table, i, 0));
-    run_printing::text(b" ");
-    part(message, table, i, 11, 12);
-    run_printing::text(b" ");
-    part(message, table, i, 3, 4);
-    run_printing::text(b" ");
-    run_printing::number(cents(table, i));
-    run_printing::text(b" ");
-    part(message, table, i, 1, 2);
-    run_printing::text(b"\n");
+fn payment(rt: &impl Print, message: &[u8], table: &[u32], i: usize) -> io::Result<()> {
+    run_printing::number(rt, i as u64)?;
+    run_printing::text(rt, b" ")?;
+    run_printing::number(rt, number(table, i, 0))?;
+    run_printing::text(rt, b" ")?;
+    part(rt, message, table, i, 11, 12)?;
+    run_printing::text(rt, b" ")?;
+    part(rt, message, table, i, 3, 4)?;
+    run_printing::text(rt, b" ")?;
+    run_printing::number(rt, cents(table, i))?;
+    run_printing::text(rt, b" ")?;
+    part(rt, message, table, i, 1, 2)?;
+    run_printing::text(rt, b"\n")
 }
 
-fn each_payment(message: &[u8], table: &[u32], payments: usize) {
-    let mut i = 0;
-    while i < payments {
-        payment(message, table, i);
-        i += 1;
+fn each_payment(rt: &impl Print, message: &[u8], table: &[u32], payments: usize) -> io::Result<()> {
+    for i in 0..payments {
+        payment(rt, message, table, i)?;
     }
+    Ok(())
 }
 
-fn report(profile: Profile, message: &[u8], table: &mut [u32]) {
+fn report(rt: &impl Print, profile: Profile, message: &[u8], table: &mut [u32]) -> io::Result<()> {
     let answer = verdict_answers::of_message(verdict_reader::verdict(profile, message, table));
-    let payments = answer.payments as usize;
-    run_printing::message(answer);
-    each_payment(message, table, payments);
+    run_printing::message(rt, answer)?;
+    each_payment(rt, message, table, answer.payments as usize)
 }
 
 // What is on standard input, read in a profile.
-pub fn on_input(profile: Profile) {
+pub fn on_input(rt: &(impl Input + Print), profile: Profile) -> io::Result<()> {
     let mut message = [0u8; 32769];
     let mut table = [0u32; paper::LEAST_TABLE];
-    let n = io::read_full(STDIN_FILENO, &mut message);
-    report(profile, &message[..n], &mut table);
+    let n = run_reading::fill(&mut rt.reader(), &mut message)?;
+    report(rt, profile, &message[..n], &mut table)
 }

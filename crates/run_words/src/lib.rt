@@ -1,8 +1,10 @@
 // The words that a program is started with.
 #![tactic(auto)]
 
-use libc::STDERR_FILENO;
 use paper::Profile;
+use std::env::FillError;
+use std::io;
+use std::rt::Env;
 
 // Whether all words are known, and the profile that is asked for.
 #[derive(Drop)]
@@ -11,53 +13,61 @@ pub struct Understood {
     pub profile: Profile,
 }
 
-// What a word says.
-#[derive(Drop)]
+// What a word says, where there is one.
+#[derive(Clone, Copy)]
 enum Said {
     Instant,
     Archived,
     Unknown,
+    Nothing,
 }
 
 // Word i: `archived`, or `instant` where that may be said; any other is said on standard error.
-fn word(i: usize, may_name: bool) -> Said {
-    let mut text = io::buffer();
-    let n = os::arg(i, &mut text);
+fn word<R: Env>(rt: &R, errors: &impl Print, i: usize, may_name: bool) -> io::Result<Said> {
+    let mut text = [0u8; 4096];
+    let n = match rt.arg(i, &mut text) {
+        Ok(n) => n,
+        Err(FillError::NotPresent) => return Ok(Said::Nothing),
+        Err(FillError::TooLong) => 0,
+    };
     if leaf_texts::same(&text[..n], b"archived") {
-        return Said::Archived;
+        return Ok(Said::Archived);
     }
     if may_name {
         if leaf_texts::same(&text[..n], b"instant") {
-            return Said::Instant;
+            return Ok(Said::Instant);
         }
     }
-    io::write_all(STDERR_FILENO, b"this word is not known: ");
-    io::write_all(STDERR_FILENO, &text[..n]);
-    io::write_all(STDERR_FILENO, b"\n");
-    Said::Unknown
+    errors.write_all(b"this word is not known: ")?;
+    errors.write_all(&text[..n])?;
+    errors.write_all(b"\n")?;
+    Ok(Said::Unknown)
 }
 
 // The profile that a program reads in by itself, or the instant one where its words may and do name it. The message is archived where they say so.
-pub fn asked(own: Profile, may_name: bool) -> Understood {
-    let count = os::arg_count();
+pub fn asked<R: Env>(
+    rt: &R,
+    errors: &impl Print,
+    own: Profile,
+    may_name: bool,
+) -> io::Result<Understood> {
     let mut instant = own.instant;
     let mut archived = own.archived;
-    let mut i = 1;
-    while i < count {
-        match word(i, may_name) {
+    for i in 1..usize::MAX {
+        match word(rt, errors, i, may_name)? {
             Said::Instant => instant = true,
             Said::Archived => archived = true,
+            Said::Nothing => break,
             Said::Unknown => {
-                return Understood {
+                return Ok(Understood {
                     known: false,
                     profile: own,
-                };
+                });
             }
         }
-        i += 1;
     }
-    Understood {
+    Ok(Understood {
         known: true,
         profile: Profile { instant, archived },
-    }
+    })
 }

@@ -2,14 +2,16 @@
 #![tactic(auto)]
 
 use paper::Profile;
+use std::io;
 
-fn main() {
+fn main(rt: HostRuntime) -> io::Result<()> {
     let own = Profile {
         instant: true,
         archived: false,
     };
-    let asked = run_words::asked(own, false);
+    let asked = run_words::asked(&rt, &rt.stderr(), own, false)?;
     if asked.known {
-        run_verdict::on_input(asked.profile);
+        run_verdict::on_input(&rt, asked.profile)?;
     }
+    Ok(())
 }
