@@ -1,4 +1,5 @@
 -- The number of a name, and when two names have one number; the table compared with a name, byte by byte.
+use Rattle.std.specs.Prelude.{if◌then◌else◌}
 use Prim.Native.Nat.{ℕ, zero, suc, ◌+◌, ◌*◌, ◌-◌, ◌%◌, ◌≤◌, ◌<◌}
 use mathlib.Core.List.{List, [], ◌∷◌}
 use mathlib.Core.Bool.{Bool, true, false, ◌&&◌, false≢true}
@@ -9,7 +10,7 @@ use lib.ListN.{length, get_or, take, drop, drop_of_length-le}
 use lib.Seq.{drop-cons}
 use lib.Dec.{eqb, leb}
 use borrow.Author.Tests.{lt-ltb, le-ltb, eqb-true, eqb-false, eq-eqb, ne_eqb, leb-true, le-leb}
-use Rattle.paper.specs.Bytes.{if◌then◌else◌, bytes, same}
+use Rattle.paper.specs.Bytes.{bytes, same}
 use Rattle.paper.specs.Rows.{Row, leaf, group, group_under, rows, instant_changes, every_row, name_in, name}
 use Rattle.paper.proofs.Laws.{both_left, both_right, same_says, same_tests}
 use Rattle.form_names.specs.Names.{number_in, name_number, is_row, slot_of, length_in, number_of, name_of, NamesAre}

@@ -1,6 +1,6 @@
 -- A name's number: that of the lowest row that has it; 0 for every other name.
-use Rattle.std.specs.Prelude.{ℕ, ◌+◌, ◌*◌, ◌-◌, ◌%◌, ◌≤◌, ◌<◌, List, [], ◌∷◌, Bool, true, ◌&&◌, not, ◌≡◌, length, get_or, take, drop, eqb, leb, ltb}
-use Rattle.paper.specs.Bytes.{if◌then◌else◌, same}
+use Rattle.std.specs.Prelude.{ℕ, ◌+◌, ◌*◌, ◌-◌, ◌%◌, ◌≤◌, ◌<◌, List, [], ◌∷◌, Bool, true, ◌&&◌, not, ◌≡◌, length, get_or, take, drop, eqb, leb, ltb, if◌then◌else◌}
+use Rattle.paper.specs.Bytes.{same}
 use Rattle.paper.specs.Rows.{Row, every_row, name}
 
 unfoldable pub number_in : List Row → List ℕ → ℕ

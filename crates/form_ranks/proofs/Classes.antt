@@ -1,4 +1,5 @@
 -- The classes of bytes by rank: each is the bytes from a rank on, and white space has two ranks. Bytes are all tried; above them every class is empty.
+use Rattle.std.specs.Prelude.{if◌then◌else◌}
 use Prim.Native.Nat.{ℕ, zero, suc, ◌<◌, ◌≤◌}
 use Prim.Native.Char.{Char, code}
 use Prim.Native.String.{String, [] as []ˢ, ◌∷◌ as ◌∷ˢ◌}
@@ -9,7 +10,7 @@ use native.Mathlib.Omega.{arith}
 use lib.ListN.{get_or}
 use lib.Dec.{eqb, leb}
 use borrow.Author.Tests.{leb-true, leb-false, lt-leb, eqb-true, eqb-false, ne_eqb}
-use Rattle.paper.specs.Bytes.{if◌then◌else◌, bytes, is, from_to, one_of, white, text_byte, capital, digit, letter, letter_or_digit, value_character, every}
+use Rattle.paper.specs.Bytes.{bytes, is, from_to, one_of, white, text_byte, capital, digit, letter, letter_or_digit, value_character, every}
 use Rattle.paper.specs.Values.{lies_from}
 use Rattle.paper.proofs.Laws.{both_left, both_right}
 use Rattle.paper_grammar.proofs.AllBytes.{is_byte}

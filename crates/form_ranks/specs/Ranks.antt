@@ -1,7 +1,7 @@
 -- The ranks of bytes. White space is 2 and 3, text 1 and up, the characters of values 3 and up, letters and digits 5 and up, letters 6 and up, capitals 7
 -- (proofs/Classes.antt).
-use Rattle.std.specs.Prelude.{ℕ, ◌<◌, List, ◌≡◌, get_or}
-use Rattle.paper.specs.Bytes.{if◌then◌else◌, is, one_of, capital, letter, digit, text_byte}
+use Rattle.std.specs.Prelude.{ℕ, ◌<◌, List, ◌≡◌, get_or, if◌then◌else◌}
+use Rattle.paper.specs.Bytes.{is, one_of, capital, letter, digit, text_byte}
 
 unfoldable pub rank : ℕ → ℕ
 rank b =

@@ -1,4 +1,5 @@
 -- The rule of 97: the remainder that is taken character by character, or after each four, is that of the whole number.
+use Rattle.std.specs.Prelude.{if◌then◌else◌}
 use Prim.Native.Nat.{ℕ, ◌+◌, ◌*◌, ◌-◌, ◌/◌, ◌%◌, ◌<◌}
 use mathlib.Core.Path.{◌≡◌, refl, ap, sym, ◌∙◌}
 use mathlib.Core.List.{List, [], ◌∷◌, ◌++◌}
@@ -6,7 +7,7 @@ use mathlib.Core.Bool.{Bool, true, false}
 use native.Mathlib.Nat.{mod-mod, mod-eq_of_lt, add-mul, mul_assoc, div-add-mod, add-mul-mod_self_left}
 use native.Mathlib.Omega.{arith}
 use lib.ListN.{length, get_or, take, drop}
-use Rattle.paper.specs.Bytes.{if◌then◌else◌, digit}
+use Rattle.paper.specs.Bytes.{digit}
 use Rattle.paper.specs.Values.{read_after, moved, number_after, number}
 use Rattle.leaf_accounts.specs.Remainders.{read_one, remainder_after}
 use Rattle.leaf_texts.proofs.Laws.{rest_is}

@@ -1,6 +1,6 @@
 -- The rule of an account, character by character; proofs/Account.antt shows that it is the paper's, and that the code's four at a time come to the same.
-use Rattle.std.specs.Prelude.{ℕ, ◌+◌, ◌*◌, ◌-◌, ◌%◌, List, [], ◌∷◌}
-use Rattle.paper.specs.Bytes.{if◌then◌else◌, digit}
+use Rattle.std.specs.Prelude.{ℕ, ◌+◌, ◌*◌, ◌-◌, ◌%◌, List, [], ◌∷◌, if◌then◌else◌}
+use Rattle.paper.specs.Bytes.{digit}
 
 -- one character more behind a number: a digit as itself, A to Z as 10 to 35
 unfoldable pub read_one : (n b : ℕ) → ℕ

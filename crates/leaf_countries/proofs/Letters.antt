@@ -1,11 +1,12 @@
 -- A country by its letters and the whole length.
+use Rattle.std.specs.Prelude.{if◌then◌else◌}
 use Prim.Native.Nat.{ℕ}
 use mathlib.Core.Path.{◌≡◌, refl, ap}
 use mathlib.Core.List.{List, [], ◌∷◌, ◌++◌}
 use mathlib.Core.Bool.{Bool, true, false, ◌&&◌, ◌||◌, or-false}
 use lib.ListN.{length, take}
 use lib.Dec.{eqb}
-use Rattle.paper.specs.Bytes.{if◌then◌else◌, same}
+use Rattle.paper.specs.Bytes.{same}
 use Rattle.paper.specs.Values.{Country, of_a_country}
 use Rattle.paper.specs.Refusals.{among_texts}
 use Rattle.leaf_countries.specs.Letters.{letters_of}

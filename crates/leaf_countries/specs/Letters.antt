@@ -1,6 +1,5 @@
 -- The countries of a length as code takes them.
-use Rattle.std.specs.Prelude.{ℕ, List, [], ◌∷◌, ◌++◌, eqb}
-use Rattle.paper.specs.Bytes.{if◌then◌else◌}
+use Rattle.std.specs.Prelude.{ℕ, List, [], ◌∷◌, ◌++◌, eqb, if◌then◌else◌}
 use Rattle.paper.specs.Values.{Country}
 
 -- the letters of the countries whose accounts have this whole length

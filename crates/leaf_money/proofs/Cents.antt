@@ -1,4 +1,5 @@
 -- The point, and money by where it stands.
+use Rattle.std.specs.Prelude.{if◌then◌else◌}
 use Prim.Native.Nat.{ℕ, suc, ◌+◌, ◌*◌, ◌-◌, ◌<◌, ◌≤◌}
 use mathlib.Core.Path.{◌≡◌, refl, ap, sym, ◌∙◌}
 use mathlib.Core.List.{List, [], ◌∷◌, ◌++◌}
@@ -9,7 +10,7 @@ use lib.ListN.{length, get_or, take, drop, length-take}
 use lib.Seq.{take_all}
 use lib.Dec.{eqb}
 use borrow.Author.Tests.{eq-eqb, ne_eqb}
-use Rattle.paper.specs.Bytes.{if◌then◌else◌, is, same, bytes}
+use Rattle.paper.specs.Bytes.{is, same, bytes}
 use Rattle.paper.specs.Values.{number_after, number, digits, before_point, behind_point, money, cents}
 use Rattle.leaf_numbers.specs.Readings.{in_cents}
 use Rattle.leaf_numbers.specs.declared.Reading.TheVariants.{Not, Number}

@@ -1,6 +1,5 @@
 -- What the numbers of the code say in the paper's words.
-use Rattle.std.specs.Prelude.{ℕ, ◌<◌, ◌≡◌, List, take}
-use Rattle.paper.specs.Bytes.{if◌then◌else◌}
+use Rattle.std.specs.Prelude.{ℕ, ◌<◌, ◌≡◌, List, take, if◌then◌else◌}
 use Rattle.paper.specs.Values.{number, digits, money, cents}
 use Rattle.leaf_numbers.specs.declared.Reading.{Reading}
 use Rattle.leaf_numbers.specs.declared.Reading.TheVariants.{Not, Number}

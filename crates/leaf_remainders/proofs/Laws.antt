@@ -1,4 +1,5 @@
 -- What characters spell, modulo 97, as code takes it: the remainder may be taken after each character.
+use Rattle.std.specs.Prelude.{if◌then◌else◌}
 use Prim.Native.Nat.{ℕ, ◌+◌, ◌*◌, ◌-◌, ◌/◌, ◌%◌, ◌<◌, ◌≤◌}
 use mathlib.Core.Path.{◌≡◌, refl, ap, sym, ◌∙◌}
 use mathlib.Core.List.{List, [], ◌∷◌, ◌++◌}
@@ -8,7 +9,7 @@ use native.Mathlib.Omega.{arith}
 use lib.ListN.{length, get_or, take, drop}
 use lib.Dec.{leb}
 use borrow.Author.Tests.{leb-true}
-use Rattle.paper.specs.Bytes.{if◌then◌else◌, from_to, digit}
+use Rattle.paper.specs.Bytes.{from_to, digit}
 use Rattle.paper.specs.Values.{read_after}
 use Rattle.paper.proofs.Laws.{both_right}
 use Rattle.leaf_texts.proofs.Laws.{rest_is}

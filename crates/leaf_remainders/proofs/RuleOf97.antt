@@ -1,10 +1,11 @@
 -- The number that characters spell is the decimal number of the digits that they are read as, A to Z as 10 to 35; so its remainder by 97 is that number's.
+use Rattle.std.specs.Prelude.{if◌then◌else◌}
 use Prim.Native.Nat.{ℕ, ◌+◌, ◌*◌, ◌-◌, ◌/◌, ◌%◌}
 use mathlib.Core.Path.{◌≡◌, refl, ap, ◌∙◌}
 use mathlib.Core.List.{List, [], ◌∷◌, ◌++◌}
 use mathlib.Core.Bool.{Bool, true, false}
 use native.Mathlib.Omega.{arith}
-use Rattle.paper.specs.Bytes.{if◌then◌else◌, digit}
+use Rattle.paper.specs.Bytes.{digit}
 use Rattle.paper.specs.Values.{read_after, number_after, number}
 use Rattle.leaf_remainders.specs.Remainders.{modulo_97}
 

@@ -1,4 +1,5 @@
 -- One step of a walk along a text, for each definition that is taken byte by byte: with a byte more, at a byte that decides, at the end.
+use Rattle.std.specs.Prelude.{if◌then◌else◌}
 use Prim.Native.Nat.{ℕ, suc, ◌+◌, ◌-◌, ◌<◌, ◌≤◌}
 use Prim.Native.Char.{code}
 use Prim.Native.String.{String, [] as []ˢ, ◌∷◌ as ◌∷ˢ◌}
@@ -12,7 +13,7 @@ use native.Mathlib.Nat.{add-zero}
 use lib.Seq.{drop-cons, get_or-drop, take_all}
 use lib.Dec.{eqb}
 use borrow.Author.Tests.{eq-eqb, ne_eqb, eqb-true, eqb-false}
-use Rattle.paper.specs.Bytes.{if◌then◌else◌, bytes, is, from_to, one_of, letter, digit, letter_or_digit, capital_or_digit, value_character, every, same}
+use Rattle.paper.specs.Bytes.{bytes, is, from_to, one_of, letter, digit, letter_or_digit, capital_or_digit, value_character, every, same}
 use Rattle.paper.specs.Values.{among, fits, shaped, two_slashes}
 use Rattle.paper.specs.Refusals.{first_not}
 use Rattle.paper.proofs.Laws.{both_right}

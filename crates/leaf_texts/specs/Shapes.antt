@@ -1,6 +1,6 @@
 -- The paper's shapes, with the shape a text of bytes as code holds it.
-use Rattle.std.specs.Prelude.{ℕ, ◌+◌, ◌≤◌, List, [], ◌∷◌, Bool, true, false, ◌&&◌, ◌≡◌, length, get_or, eqb}
-use Rattle.paper.specs.Bytes.{if◌then◌else◌, is, capital, digit, capital_or_digit}
+use Rattle.std.specs.Prelude.{ℕ, ◌+◌, ◌≤◌, List, [], ◌∷◌, Bool, true, false, ◌&&◌, ◌≡◌, length, get_or, eqb, if◌then◌else◌}
+use Rattle.paper.specs.Bytes.{is, capital, digit, capital_or_digit}
 
 unfoldable pub fits_byte : (shape b : ℕ) → Bool
 fits_byte c b =

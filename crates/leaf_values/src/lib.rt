@@ -1,8 +1,8 @@
 // What a value may be: refusals 6, 7 and 8 for one leaf.
 #![tactic(auto)]
 
-ghost use Rattle.std.specs.Prelude.{◌≡◌, ◌&&◌, [], ◌∷◌, eqb};
-ghost use Rattle.paper.specs.Bytes.{if◌then◌else◌, bytes, same, value_character, Every};
+ghost use Rattle.std.specs.Prelude.{◌≡◌, ◌&&◌, [], ◌∷◌, eqb, if◌then◌else◌};
+ghost use Rattle.paper.specs.Bytes.{bytes, same, value_character, Every};
 ghost use Rattle.paper.specs.Values.{among, right_for, amount};
 ghost use Rattle.paper.specs.Refusals.{first_not};
 ghost use Rattle.leaf_values.specs.Judgements.{Judges};

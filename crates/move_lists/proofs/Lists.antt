@@ -1,4 +1,5 @@
 -- The file of the regrouping list, read by places.
+use Rattle.std.specs.Prelude.{if◌then◌else◌}
 use Prim.Native.Nat.{ℕ, zero, suc, ◌+◌, ◌*◌, ◌<◌, ◌≤◌}
 use native.Mathlib.Omega.{arith}
 use mathlib.Core.List.{List, [], ◌∷◌}
@@ -9,7 +10,7 @@ use lib.ListN.{length, get_or, take, drop, length-drop, get_or-eq_default}
 use lib.Seq.{get_or-drop}
 use lib.Dec.{eqb}
 use borrow.Author.Tests.{eq-eqb, eqb-true}
-use Rattle.paper.specs.Bytes.{if◌then◌else◌, bytes, same}
+use Rattle.paper.specs.Bytes.{bytes, same}
 use Rattle.paper.specs.Regrouping.{add_first, numbers_16, counted, ordinals_of}
 use Rattle.paper.proofs.Laws.{false_not_true, some_not_none, both_left, both_right}
 use Rattle.move_lists.specs.Lists.{how_many}

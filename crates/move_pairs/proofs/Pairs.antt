@@ -1,4 +1,5 @@
 -- The walk over the ordinals: what is answered of each pair, and the marks that say which payments were named.
+use Rattle.std.specs.Prelude.{if◌then◌else◌}
 use Prim.Native.Nat.{ℕ, zero, suc, ◌+◌, ◌<◌, ◌≤◌}
 use native.Mathlib.Omega.{arith}
 use native.Mathlib.Nat.{add-zero}
@@ -15,7 +16,6 @@ use Rattle.paper.specs.Values.{among}
 use Rattle.paper.specs.Payments.{Payment, payments}
 use Rattle.paper.specs.Accepted.{All, all_none, all_more}
 use Rattle.paper.specs.Fields.{Value, values_of, differ_from}
-use Rattle.paper.specs.Bytes.{if◌then◌else◌}
 use Rattle.paper.specs.Regrouping.{RegroupingAnswer, answered, pairing, all_values}
 use Rattle.tree_fields.specs.Routes.{RoutesAre}
 use Rattle.rule_limits.specs.Ordered.{IsPayment, payment_in, PaymentsAt, no_payments, more_payments}

@@ -1,7 +1,7 @@
 -- Seventeen fields of a payment (docs/RULES.md, 8).
-use Rattle.std.specs.Prelude.{ℕ, zero, suc, List, [], ◌∷◌, map, Bool, true, false, ◌&&◌, get_or, eqb}
+use Rattle.std.specs.Prelude.{ℕ, zero, suc, List, [], ◌∷◌, map, Bool, true, false, ◌&&◌, get_or, eqb, if◌then◌else◌}
 use Rattle.std.proofs.Math.Option.{Option, none, some}
-use Rattle.paper.specs.Bytes.{if◌then◌else◌, bytes, same}
+use Rattle.paper.specs.Bytes.{bytes, same}
 use Rattle.paper.specs.Form.{Element}
 use Rattle.paper.specs.Values.{cents}
 use Rattle.paper.specs.Payments.{Payment, text_of, payments, in_payment, in_block, inherited, either_of}

@@ -1,8 +1,8 @@
 -- Refusals of a message (docs/RULES.md, 6). Stages run in this order, each over the whole message, if the earlier ones found nothing.
-use Rattle.std.specs.Prelude.{ℕ, suc, ◌+◌, List, [], ◌∷◌, Bool, true, false, ◌||◌, not, length, eqb, ltb}
+use Rattle.std.specs.Prelude.{ℕ, suc, ◌+◌, List, [], ◌∷◌, Bool, true, false, ◌||◌, not, length, eqb, ltb, if◌then◌else◌}
 use Rattle.std.proofs.Math.Option.{Option, none, some}
 use Rattle.paper.specs.Sizes.{largest_message, least_table, most_blocks, most_payments}
-use Rattle.paper.specs.Bytes.{if◌then◌else◌, white, value_character, every, same}
+use Rattle.paper.specs.Bytes.{white, value_character, every, same}
 use Rattle.paper.specs.Form.{Head, Element, Elements, holding_text, holding_elements, []ᵉ, ◌∷ᵉ◌}
 use Rattle.paper.specs.Computed.Reading.{Reading, root_is, stops_at, read}
 use Rattle.paper.specs.Rows.{Place, one, opt, plus, either, text, elements, Row, Profile, name, row_of, longest_of, head_of}

@@ -1,8 +1,8 @@
 -- The regrouping list, and the answer to a regrouping (docs/RULES.md, 9).
-use Rattle.std.specs.Prelude.{ℕ, zero, suc, ◌+◌, ◌*◌, ◌/◌, ◌%◌, ◌<◌, Bool, true, false, ◌&&◌, not, ◌≡◌, length, get_or, take, drop, eqb, ltb}
+use Rattle.std.specs.Prelude.{ℕ, zero, suc, ◌+◌, ◌*◌, ◌/◌, ◌%◌, ◌<◌, Bool, true, false, ◌&&◌, not, ◌≡◌, length, get_or, take, drop, eqb, ltb, if◌then◌else◌}
 use mathlib.Core.List.{List, [], ◌∷◌, ◌++◌, map, Memᴰ}
 use Rattle.std.proofs.Math.Option.{Option, none, some}
-use Rattle.paper.specs.Bytes.{if◌then◌else◌, bytes, same, each}
+use Rattle.paper.specs.Bytes.{bytes, same, each}
 use Rattle.paper.specs.Form.{Element}
 use Rattle.paper.specs.Rows.{Profile, as_new}
 use Rattle.paper.specs.Values.{among}

@@ -1,10 +1,10 @@
 -- The rows (docs/RULES.md, 3). Children stand in this order; ? (`opt`) is at most one, + (`plus`) is one or more, / (`either`) is a choice of exactly one,
 -- the rest (`one`) exactly one. A number after a leaf is its longest length in bytes.
-use Rattle.std.specs.Prelude.{ℕ, Bool, ◌&&◌, ◌||◌, ◌≡◌, eqb}
+use Rattle.std.specs.Prelude.{ℕ, Bool, ◌&&◌, ◌||◌, ◌≡◌, eqb, if◌then◌else◌}
 use Prim.Native.String.{String}
 use mathlib.Core.List.{List, [], ◌∷◌, ◌++◌, Memᴰ}
 use Rattle.std.proofs.Math.Option.{Option, some}
-use Rattle.paper.specs.Bytes.{if◌then◌else◌, bytes, white, Every}
+use Rattle.paper.specs.Bytes.{bytes, white, Every}
 use Rattle.paper.specs.Form.{Head, Element, Elements, holding_text, holding_elements, []ᵉ, ◌∷ᵉ◌}
 
 -- A place in a group's order, and the rows that may take it.

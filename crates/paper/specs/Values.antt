@@ -1,8 +1,8 @@
 -- What a value may be (docs/RULES.md, 4): a rule for each kind, over the text alone. (Length and characters are refusals 6 and 7, and are asked first.)
-use Rattle.std.specs.Prelude.{ℕ, ◌+◌, ◌*◌, ◌-◌, ◌%◌, List, [], ◌∷◌, ◌++◌, Bool, true, false, ◌&&◌, ◌||◌, not, length, get_or, take, drop, eqb, leb}
+use Rattle.std.specs.Prelude.{ℕ, ◌+◌, ◌*◌, ◌-◌, ◌%◌, List, [], ◌∷◌, ◌++◌, Bool, true, false, ◌&&◌, ◌||◌, not, length, get_or, take, drop, eqb, leb, if◌then◌else◌}
 use Prim.Native.Char.{Char, code}
 use Prim.Native.String.{String, [] as []ˢ, ◌∷◌ as ◌∷ˢ◌}
-use Rattle.paper.specs.Bytes.{if◌then◌else◌, bytes, is, capital, digit, capital_or_digit, every, same}
+use Rattle.paper.specs.Bytes.{bytes, is, capital, digit, capital_or_digit, every, same}
 
 -- the number is one of these; it lies from low to high
 unfoldable pub among : ℕ → List ℕ → Bool

@@ -1,11 +1,12 @@
 -- In no group of a profile have two rows one name: one computed test over its rows.
+use Rattle.std.specs.Prelude.{if◌then◌else◌}
 use Prim.Native.Nat.{ℕ}
 use mathlib.Core.List.{List, [], ◌∷◌}
 use mathlib.Core.Bool.{Bool, true, false, ◌&&◌, ◌||◌, not}
 use mathlib.Core.Path.{◌≡◌, sym, ap, ◌∙◌}
 use lib.Dec.{eqb}
 use borrow.Author.Tests.{not-true}
-use Rattle.paper.specs.Bytes.{if◌then◌else◌, same}
+use Rattle.paper.specs.Bytes.{same}
 use Rattle.paper.specs.Rows.{Contents, text, elements, Row, Profile, name, row_in, row_of}
 use Rattle.paper.specs.Accepted.{All, all_none, all_more}
 use Rattle.paper.proofs.Laws.{false_not_true, both_left, both_right, same_tests}

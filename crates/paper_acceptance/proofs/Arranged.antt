@@ -1,4 +1,5 @@
 -- A child finds its place exactly where the rows of the children are arranged as the places say, provided that no two rows of a group have one name.
+use Rattle.std.specs.Prelude.{if◌then◌else◌}
 use Prim.Native.Nat.{ℕ}
 use native.Mathlib.Omega.{arith}
 use mathlib.Core.List.Memᴰ
@@ -7,7 +8,7 @@ use mathlib.Core.Bool.{Bool, true, false, ◌&&◌}
 use mathlib.Core.Option.{Option, none, some}
 use mathlib.Core.Path.{◌≡◌, refl, sym, subst}
 use mathlib.Core.Logic.{◌⊎◌, inl, inr, ⊎_elim}
-use Rattle.paper.specs.Bytes.{if◌then◌else◌, same}
+use Rattle.paper.specs.Bytes.{same}
 use Rattle.paper.specs.Rows.{Place, one, opt, plus, either, name, Arranged, end, exactly_one, there, not_there, the_last, one_before, chosen}
 use Rattle.paper.specs.Values.{among}
 use Rattle.paper.specs.Accepted.{All}

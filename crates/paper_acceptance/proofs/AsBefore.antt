@@ -1,5 +1,6 @@
 -- What the instant profile leaves as it was: a row that the first profile has keeps its name; and in a message that the first profile accepts field 4 is the date of row 23, since
 -- no row 58 stands there, whether it is new or archived. (All else that is said of the first profile speaks of its rows and of what is withdrawn.)
+use Rattle.std.specs.Prelude.{if◌then◌else◌}
 use Prim.Native.Nat.{ℕ}
 use mathlib.Core.List.{List, [], ◌∷◌, ◌++◌}
 use mathlib.Core.Bool.{Bool, true, false}
@@ -7,7 +8,7 @@ use mathlib.Core.Option.{Option, none, some}
 use mathlib.Core.Path.{◌≡◌, refl, ap, ◌∙◌}
 use lib.Dec.{eqb}
 use lib.ListN.{get_or}
-use Rattle.paper.specs.Bytes.{if◌then◌else◌, bytes, same}
+use Rattle.paper.specs.Bytes.{bytes, same}
 use Rattle.paper.specs.Form.{Element}
 use Rattle.paper.specs.Rows.{Row, leaf, group, group_under, rows, instant_changes, every_row, Profile, for_new, for_archived, profile_by, first_profile, name_in, name, row_in, row_of}
 use Rattle.paper.specs.Values.{among}

@@ -1,4 +1,5 @@
 -- The numbers that each stage gives.
+use Rattle.std.specs.Prelude.{if◌then◌else◌}
 use Prim.Native.Nat.{ℕ, suc, ◌+◌}
 use mathlib.Core.List.{List, [], ◌∷◌, Memᴰ}
 use mathlib.Core.Bool.{Bool, true, false}
@@ -6,7 +7,7 @@ use mathlib.Core.Option.{Option, none, some}
 use mathlib.Core.Path.{◌≡◌, refl, sym, subst}
 use lib.Dec.{eqb}
 use lib.ListN.{length}
-use Rattle.paper.specs.Bytes.{if◌then◌else◌, white, every}
+use Rattle.paper.specs.Bytes.{white, every}
 use Rattle.paper.specs.Form.{Head, Element, Elements, holding_text, holding_elements, []ᵉ, ◌∷ᵉ◌}
 use Rattle.paper.specs.Rows.{Place, Contents, text, elements, Row, Profile, row_of, head_of}
 use Rattle.paper.specs.Payments.{Payment, text_of, all_of, blocks, block_id, payments, in_payment, in_block}

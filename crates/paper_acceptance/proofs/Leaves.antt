@@ -1,4 +1,5 @@
 -- In a message that keeps the rows the pairs of the table and the fields are leaves, but for the fifth pair, which is a group. So the part of a field has the field's text.
+use Rattle.std.specs.Prelude.{if◌then◌else◌}
 use Prim.Native.Nat.{ℕ, zero, suc}
 use mathlib.Core.List.{List, [], ◌∷◌, map}
 use mathlib.Core.Bool.{Bool, true, false, ◌&&◌}
@@ -6,7 +7,7 @@ use mathlib.Core.Option.{Option, none, some}
 use mathlib.Core.Path.{◌≡◌, refl, sym, ap, ◌∙◌, subst}
 use lib.ListN.{take, drop, get_or}
 use lib.Dec.{eqb}
-use Rattle.paper.specs.Bytes.{if◌then◌else◌, same}
+use Rattle.paper.specs.Bytes.{same}
 use Rattle.paper.specs.Form.{Head, Element, holding_text}
 use Rattle.paper.specs.Rows.{Profile, row_of}
 use Rattle.paper.specs.Payments.{Payment, text_of, child, follow, payments, in_payment, in_block, either_of, inherited}

@@ -1,4 +1,5 @@
 -- The walk for 6 to 8 and 28 and the walk for 3 and 4 find the same, unless the first finds one of its own numbers.
+use Rattle.std.specs.Prelude.{if◌then◌else◌}
 use Prim.Native.Nat.{ℕ, ◌<◌}
 use native.Mathlib.Omega.{arith}
 use mathlib.Core.List.{List, [], ◌∷◌, Memᴰ}
@@ -6,7 +7,7 @@ use mathlib.Core.Bool.{Bool, true, false, not}
 use mathlib.Core.Option.{Option, none, some}
 use mathlib.Core.Path.{◌≡◌, refl, subst}
 use lib.ListN.{length}
-use Rattle.paper.specs.Bytes.{if◌then◌else◌, value_character, every}
+use Rattle.paper.specs.Bytes.{value_character, every}
 use Rattle.paper.specs.Form.{Head, Element, Elements, holding_text, holding_elements, []ᵉ, ◌∷ᵉ◌}
 use Rattle.paper.specs.Rows.{Place, Contents, text, elements, Row, Profile, row_of, longest_of, head_of}
 use Rattle.paper.specs.Values.{among, allowed, lies_from}

@@ -1,5 +1,6 @@
 -- The refusal is the first by the order of the checks: the answer's number is one of a stage's exactly where that stage is the first that does not hold. And refusal 2,
 -- with its offset.
+use Rattle.std.specs.Prelude.{if◌then◌else◌}
 use Prim.Native.Nat.{ℕ, ◌≤◌}
 use lib.Dec.{ltb}
 use native.Mathlib.Omega.{arith}
@@ -8,7 +9,6 @@ use mathlib.Core.Option.{Option, none, some}
 use mathlib.Core.Path.{◌≡◌, refl, sym, ◌∙◌, ap, subst}
 use mathlib.Core.Logic.{◌↔◌}
 use lib.ListN.{length}
-use Rattle.paper.specs.Bytes.{if◌then◌else◌}
 use Rattle.paper.specs.Sizes.{largest_message, least_table}
 use Rattle.paper.specs.Form.{Element, OfTheForm, FirstImpossible}
 use Rattle.paper.specs.Computed.Reading.{Reading, root_is, stops_at, read}

@@ -1,5 +1,6 @@
 -- The verdict accepts a message, with a root, exactly where the table is long enough, the message is not too long, its reading gives that root, and the root's tree is
 -- accepted.
+use Rattle.std.specs.Prelude.{if◌then◌else◌}
 use Prim.Native.Nat.{ℕ, ◌≤◌}
 use native.Mathlib.Omega.{arith}
 use mathlib.Core.List.{List, [], ◌∷◌, map}
@@ -11,7 +12,7 @@ use borrow.Author.Tests.{ltb-false, le-ltb}
 use lib.ListN.{length}
 use lib.Dec.{ltb}
 use Rattle.paper.specs.Sizes.{largest_message, least_table}
-use Rattle.paper.specs.Bytes.{if◌then◌else◌, same}
+use Rattle.paper.specs.Bytes.{same}
 use Rattle.paper.specs.Form.{Element}
 use Rattle.paper.specs.Computed.Reading.{Reading, root_is, stops_at, read}
 use Rattle.paper.specs.Rows.{Profile}

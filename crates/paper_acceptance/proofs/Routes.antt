@@ -1,4 +1,5 @@
 -- What a conforming element has: the children of a row conform to it, a row that must be there has a child, and so along a route of rows.
+use Rattle.std.specs.Prelude.{if◌then◌else◌}
 use Prim.Native.Nat.{ℕ}
 use native.Mathlib.Omega.{arith}
 use mathlib.Core.List.Memᴰ
@@ -9,7 +10,7 @@ use mathlib.Core.Path.{◌≡◌, refl, sym, ◌∙◌, ap, subst}
 use mathlib.Core.Logic.{⊎_elim}
 use borrow.Author.Tests.{eqb-true}
 use lib.Dec.{eqb}
-use Rattle.paper.specs.Bytes.{if◌then◌else◌, white, same, Every}
+use Rattle.paper.specs.Bytes.{white, same, Every}
 use Rattle.paper.specs.Form.{Element, Elements, holding_text, holding_elements, []ᵉ, ◌∷ᵉ◌}
 use Rattle.paper.specs.Rows.{Place, Contents, text, elements, Row, Profile, name, row_of, head_of, Arranged, end, exactly_one, there, not_there, the_last, one_before, chosen, Conforms, Conform}
 use Rattle.paper.specs.Values.{among}

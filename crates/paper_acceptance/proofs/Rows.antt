@@ -1,11 +1,12 @@
 -- The walk of refusals 3 and 4 (and, with a judgement at each element, of 6 to 8 and 28) refuses nothing exactly where the element conforms to its row, over any profile in
 -- which no two rows of a group have one name.
+use Rattle.std.specs.Prelude.{if◌then◌else◌}
 use Prim.Native.Nat.{ℕ, ◌+◌}
 use mathlib.Core.List.{List, [], ◌∷◌}
 use mathlib.Core.Bool.{Bool, true, false}
 use mathlib.Core.Option.{Option, none, some}
 use mathlib.Core.Path.{◌≡◌, refl, ◌∙◌, ap, subst}
-use Rattle.paper.specs.Bytes.{if◌then◌else◌, white, every, Every}
+use Rattle.paper.specs.Bytes.{white, every, Every}
 use Rattle.paper.specs.Form.{Head, Element, Elements, holding_text, holding_elements, []ᵉ, ◌∷ᵉ◌}
 use Rattle.paper.specs.Rows.{Place, Contents, text, elements, Row, Profile, row_of, head_of, Arranged, Conforms, Conform}
 use Rattle.paper.specs.Refusals.{Refusal, refuse, ◌or_else◌, Left, from_here, missing, ends, only_white, first_at, first_not, Sought, never, early, found, seek, Judgement, walk, walk_all}

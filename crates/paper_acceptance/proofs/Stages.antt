@@ -1,4 +1,5 @@
 -- Each stage of the verdict refuses nothing exactly where what `Accepted` says of it holds.
+use Rattle.std.specs.Prelude.{if◌then◌else◌}
 use Prim.Native.Nat.{ℕ, suc, ◌+◌, ◌≤◌}
 use native.Mathlib.Omega.{arith}
 use mathlib.Core.List.Memᴰ
@@ -10,7 +11,7 @@ use mathlib.Core.Logic.{◌↔◌, ◌⊎◌, inl, inr, ⊎_elim}
 use borrow.Author.Tests.{eqb-true, eqb-false, eq-eqb, ne_eqb, leb-true, le-leb, not-false}
 use lib.ListN.{length, length-append, length-map}
 use lib.Dec.{eqb, leb}
-use Rattle.paper.specs.Bytes.{if◌then◌else◌, value_character, every, same}
+use Rattle.paper.specs.Bytes.{value_character, every, same}
 use Rattle.paper.specs.Form.{Head, Element, holding_text, holding_elements}
 use Rattle.paper.specs.Rows.{Contents, text, elements, Row, Profile, row_of, longest_of, head_of}
 use Rattle.paper.specs.Values.{among, lies_from, allowed, number, cents}

@@ -1,12 +1,13 @@
 -- What the payments of a message tell of stands in the message, and the bytes of the part that a leaf holds are its text. This holds of every message of the form, whatever its
 -- rows.
+use Rattle.std.specs.Prelude.{if◌then◌else◌}
 use Prim.Native.Nat.{ℕ, suc}
 use mathlib.Core.List.{List, [], ◌∷◌, map}
 use mathlib.Core.Bool.{Bool, true, false}
 use mathlib.Core.Option.{Option, none, some}
 use mathlib.Core.Path.{◌≡◌, subst}
 use lib.ListN.{take, drop}
-use Rattle.paper.specs.Bytes.{if◌then◌else◌, same}
+use Rattle.paper.specs.Bytes.{same}
 use Rattle.paper.specs.Form.{Head, Element, Elements, holding_text, IsMessage}
 use Rattle.paper.specs.Rows.{name, head_of}
 use Rattle.paper.specs.Payments.{Payment, listed, children, all_named, all_of, child, follow, blocks, payments, payments_of, payments_from, in_payment, in_block, either_of, inherited}

@@ -1,5 +1,6 @@
 -- Where no element of a message is named as a row that is withdrawn, its outcome is as before; so every outcome for an archived message, of which no row is withdrawn, and that for a
 -- new one in which no element is named as row 32. Of any other message the outcome is as before or a refusal by 28. Verdict, table and fields are functions of the outcome.
+use Rattle.std.specs.Prelude.{if◌then◌else◌}
 use Prim.Native.Nat.{ℕ}
 use native.Mathlib.Omega.{arith}
 use mathlib.Core.List.Memᴰ
@@ -9,7 +10,7 @@ use mathlib.Core.Option.{Option, none, some}
 use mathlib.Core.Path.{◌≡◌, refl, sym, ap, subst}
 use borrow.Author.Tests.{eqb-true}
 use lib.Dec.{eqb}
-use Rattle.paper.specs.Bytes.{if◌then◌else◌, same}
+use Rattle.paper.specs.Bytes.{same}
 use Rattle.paper.specs.Form.{Head, Element, Elements, holding_text, holding_elements, []ᵉ, ◌∷ᵉ◌, IsMessage}
 use Rattle.paper.specs.Computed.Reading.{Reading, root_is, stops_at, read}
 use Rattle.paper.specs.Rows.{Place, Contents, text, elements, Row, Profile, for_new, for_archived, as_new, as_archived, name, row_in, row_of, head_of}

@@ -1,4 +1,5 @@
 -- A payment whose agent was not provided equals none of a message that is accepted as new: there the agent is a BIC, which is never NOTPROVIDED.
+use Rattle.std.specs.Prelude.{if◌then◌else◌}
 use Prim.Native.Nat.{ℕ}
 use native.Mathlib.Omega.{arith}
 use mathlib.Core.List.Memᴰ
@@ -9,7 +10,7 @@ use mathlib.Core.Path.{◌≡◌, refl, sym, ap, ◌∙◌, subst}
 use mathlib.Core.Logic.{⊎_elim}
 use borrow.Author.Tests.{not-true}
 use lib.ListN.{get_or}
-use Rattle.paper.specs.Bytes.{if◌then◌else◌, bytes, same}
+use Rattle.paper.specs.Bytes.{bytes, same}
 use Rattle.paper.specs.Form.{Head, Element, Elements, holding_text, holding_elements, []ᵉ, ◌∷ᵉ◌}
 use Rattle.paper.specs.Rows.{either, Row, leaf, group, group_under, rows, instant_changes, every_row, Profile, for_new, as_new, name_in, name, row_of, head_of, Arranged, end, chosen, Conforms, Conform}
 use Rattle.paper.specs.Values.{among, shaped, bic, right_for}

@@ -1,7 +1,7 @@
 -- A case, and the messages that the cases change a little.
-use Rattle.std.specs.Prelude.{ℕ, zero, suc, List, [], ◌∷◌, ◌++◌, map, Bool, true, false, ◌&&◌, ◌≡◌, length, get_or, drop, eqb}
+use Rattle.std.specs.Prelude.{ℕ, zero, suc, List, [], ◌∷◌, ◌++◌, map, Bool, true, false, ◌&&◌, ◌≡◌, length, get_or, drop, eqb, if◌then◌else◌}
 use Prim.Native.String.{String}
-use Rattle.paper.specs.Bytes.{if◌then◌else◌, bytes, each}
+use Rattle.paper.specs.Bytes.{bytes, each}
 use Rattle.paper.specs.Form.{root_tag}
 use Rattle.paper.specs.Rows.{Profile, as_archived, as_new}
 use Rattle.paper.specs.Sizes.{least_table}

@@ -1,9 +1,9 @@
 -- The borders of what a value may be (docs/RULES.md, 4), of the longest lengths (3), of the kinds of bytes (2 and 4), and of numbers written in bytes (10): of each rule
 -- texts that just keep it and texts that just break it.
-use Rattle.std.specs.Prelude.{ℕ, zero, suc, ◌+◌, List, [], ◌∷◌, ◌++◌, map, Bool, true, false, ◌≡◌}
+use Rattle.std.specs.Prelude.{ℕ, zero, suc, ◌+◌, List, [], ◌∷◌, ◌++◌, map, Bool, true, false, ◌≡◌, if◌then◌else◌}
 use Prim.Native.String.{String}
 use Rattle.std.proofs.Math.Option.{Option}
-use Rattle.paper.specs.Bytes.{if◌then◌else◌, bytes, white, text_byte, capital, digit, letter, letter_or_digit, capital_or_digit, value_character}
+use Rattle.paper.specs.Bytes.{bytes, white, text_byte, capital, digit, letter, letter_or_digit, capital_or_digit, value_character}
 use Rattle.paper.specs.Rows.{Profile, first_profile, instant_profile, row_of}
 use Rattle.paper.specs.Values.{allowed, number, cents}
 use Rattle.paper.specs.Refusals.{Refusal, refuse, text_refusal}

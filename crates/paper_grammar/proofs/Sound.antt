@@ -1,4 +1,5 @@
 -- The reading finds nothing else: where it gives a root, the text is a text of the grammar with that root.
+use Rattle.std.specs.Prelude.{if◌then◌else◌}
 use Prim.Native.Nat.{ℕ, zero, suc, ◌+◌, ◌≤◌, ◌<◌}
 use mathlib.Core.List.{List, [], ◌∷◌, ◌++◌, append_assoc, append-nil}
 use mathlib.Core.Option.{Option, none, some}
@@ -11,7 +12,7 @@ use native.Mathlib.Omega.{arith}
 use lib.ListN.{length, drop, length-append}
 use lib.Dec.{leb, eqb}
 use borrow.Author.Tests.{eqb-true, leb-true}
-use Rattle.paper.specs.Bytes.{if◌then◌else◌, bytes, is, one_of, white, text_byte, capital, letter, letter_or_digit, same, Every, every_none as all_done, every_more}
+use Rattle.paper.specs.Bytes.{bytes, is, one_of, white, text_byte, capital, letter, letter_or_digit, same, Every, every_none as all_done, every_more}
 use Rattle.paper.specs.Form.{Element, Elements, holding_text, holding_elements, []ᵉ, ◌∷ᵉ◌, IsName, letter_and, root_tag, start_tag, amount_tag, end_tag, IsStartTag, of_root, of_amount, of_any_other, head, IsElement, of_text, of_elements, AreElements, no_more, one_more, declaration, IsDeclaration, no_declaration, one_declaration, IsMessage, whole}
 use Rattle.paper_grammar.proofs.Tags.{same_true, opened_by}
 use Rattle.paper_grammar.proofs.Complete.{deep_enough}

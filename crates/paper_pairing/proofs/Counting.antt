@@ -1,4 +1,5 @@
 -- On lists alone: one list can be paired with another, each element of the first used once, exactly where each value stands equally often in both.
+use Rattle.std.specs.Prelude.{if◌then◌else◌}
 use Prim.Native.Nat.{ℕ, zero, suc, ◌-◌, ◌≤◌, ◌<◌}
 use native.Mathlib.Omega.{arith}
 use native.Mathlib.Decide.{ℕ_discrete}
@@ -10,7 +11,6 @@ use mathlib.Core.Logic.{⊎_elim}
 use lib.ListN.{length, get_or, length-map}
 use lib.Dec.{ltb}
 use borrow.Author.Tests.{ltb-true, ltb-false, lt-ltb, le-ltb}
-use Rattle.paper.specs.Bytes.{if◌then◌else◌}
 use Rattle.paper.specs.Accepted.{All, all_none, all_more, Distinct, distinct_none, distinct_more}
 use Rattle.paper.proofs.Laws.{all_member, all_map, all_from}
 

@@ -1,4 +1,5 @@
 -- The walk over a list of ordinals refuses nothing exactly where the list pairs the payments of the first message with those of the second.
+use Rattle.std.specs.Prelude.{if◌then◌else◌}
 use Prim.Native.Nat.{ℕ, suc, ◌<◌}
 use native.Mathlib.Omega.{arith}
 use mathlib.Core.List.Memᴰ
@@ -10,7 +11,7 @@ use mathlib.Core.Logic.{⊎_elim}
 use lib.ListN.{length, get_or}
 use lib.Dec.{ltb}
 use borrow.Author.Tests.{ltb-true, lt-ltb, eqb-true, eq-eqb}
-use Rattle.paper.specs.Bytes.{if◌then◌else◌, same}
+use Rattle.paper.specs.Bytes.{same}
 use Rattle.paper.specs.Values.{among}
 use Rattle.paper.specs.Accepted.{All, all_none, all_more, Distinct, distinct_none, distinct_more}
 use Rattle.paper.specs.Fields.{Value, absent, a_text, in_cents, free_text, reference, same_issuer, same_value, differ_from}

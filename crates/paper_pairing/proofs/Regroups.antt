@@ -1,5 +1,6 @@
 -- Demand 3 on the definitions: a regrouping is accepted exactly where `Regroups` holds; and for two accepted messages an acceptable list exists exactly
 -- where every payment, taken as its seventeen fields, stands equally often in both.
+use Rattle.std.specs.Prelude.{if◌then◌else◌}
 use Prim.Native.Nat.{ℕ, zero, suc, ◌+◌, ◌*◌, ◌≤◌, ◌<◌}
 use native.Mathlib.Omega.{arith}
 use mathlib.Core.List.{List, [], ◌∷◌, ◌++◌, map}
@@ -10,7 +11,7 @@ use mathlib.Core.Logic.{◌↔◌}
 use lib.ListN.{length, get_or, take, drop, length-map, take-append-drop}
 use lib.Dec.{eqb}
 use borrow.Author.Tests.{eqb-true, eq-eqb}
-use Rattle.paper.specs.Bytes.{if◌then◌else◌, bytes, same, each}
+use Rattle.paper.specs.Bytes.{bytes, same, each}
 use Rattle.paper.specs.Form.{Element}
 use Rattle.paper.specs.Rows.{Profile, as_new}
 use Rattle.paper.specs.Payments.{Payment, payments}

@@ -1,4 +1,5 @@
 -- The six numbers of an answer to a regrouping: k only for 18 to 20, a field only for 20, a message's refusal, by a number of some stage, with neither; number 0 is acceptance.
+use Rattle.std.specs.Prelude.{if◌then◌else◌}
 use Prim.Native.Nat.{ℕ, suc, ◌<◌}
 use native.Mathlib.Omega.{arith}
 use mathlib.Core.List.{List, [], ◌∷◌, Memᴰ}
@@ -8,7 +9,6 @@ use mathlib.Core.Path.{◌≡◌, refl, ap, subst}
 use mathlib.Core.Logic.{◌↔◌}
 use lib.ListN.{length, get_or}
 use lib.Dec.{eqb, ltb}
-use Rattle.paper.specs.Bytes.{if◌then◌else◌}
 use Rattle.paper.specs.Rows.{Profile, as_new}
 use Rattle.paper.specs.Values.{among}
 use Rattle.paper.specs.Refusals.{Refusal, Outcome, refused_as, accepted_with, outcome_alone}

@@ -1,8 +1,7 @@
 -- The verdict and the regrouping with refusal 21, the total of the amounts above 64 bits, which is refused no more. Kept for the theorems that no message reaches it and that every answer
 -- without it is as with it (proofs/Unreached.antt). All that is not said here is today's.
-use Rattle.std.specs.Prelude.{ℕ, ◌^◌, List, ltb}
+use Rattle.std.specs.Prelude.{ℕ, ◌^◌, List, ltb, if◌then◌else◌}
 use Rattle.std.proofs.Math.Option.{Option, none, some}
-use Rattle.paper.specs.Bytes.{if◌then◌else◌}
 use Rattle.paper.specs.Form.{Element}
 use Rattle.paper.specs.Computed.Reading.{read}
 use Rattle.paper.specs.Rows.{Profile, as_new, head_of}

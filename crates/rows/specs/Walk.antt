@@ -1,7 +1,7 @@
 -- What each step of the walk answers, in the words of the paper.
-use Rattle.std.specs.Prelude.{ℕ, ◌+◌, List, Bool, true, false, ◌≡◌}
+use Rattle.std.specs.Prelude.{ℕ, ◌+◌, List, Bool, true, false, ◌≡◌, if◌then◌else◌}
 use Rattle.std.proofs.Math.Option.{Option, none}
-use Rattle.paper.specs.Bytes.{if◌then◌else◌, bytes}
+use Rattle.paper.specs.Bytes.{bytes}
 use Rattle.paper.specs.Form.{Head, Element, Elements, holding_elements}
 use Rattle.paper.specs.Rows.{Profile, head_of}
 use Rattle.paper.specs.Refusals.{Refusal, refuse, from_here, no_judgement, walk, walk_all, rows_refusal, value_refusal, values_refusal}

@@ -1,4 +1,5 @@
 -- Laws about elements that hold text: in a group, and in a leaf.
+use Rattle.std.specs.Prelude.{if◌then◌else◌}
 use Prim.Native.Nat.{ℕ, suc, ◌+◌, ◌-◌, ◌<◌, ◌≤◌}
 use mathlib.Core.List.{List, [], ◌∷◌}
 use mathlib.Core.Bool.{Bool, true, false, not}
@@ -8,7 +9,7 @@ use native.Mathlib.Omega.{arith}
 use lib.Dec.{eqb}
 use lib.ListN.{length, drop, length-take, length-drop}
 use borrow.Author.Tests.{eqb-true, eqb-false, ne_eqb}
-use Rattle.paper.specs.Bytes.{if◌then◌else◌, bytes, white, value_character, Every, every}
+use Rattle.paper.specs.Bytes.{bytes, white, value_character, Every, every}
 use Rattle.paper.specs.Form.{Head}
 use Rattle.paper.specs.Rows.{Place, Row, longest_of}
 use Rattle.paper.specs.Values.{right_for, lies_from, allowed}

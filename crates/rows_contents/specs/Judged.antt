@@ -1,7 +1,7 @@
 -- What a walk judges of each element, and what it finds at a leaf.
-use Rattle.std.specs.Prelude.{ℕ, List, [], ◌∷◌, ◌≡◌}
+use Rattle.std.specs.Prelude.{ℕ, List, [], ◌∷◌, ◌≡◌, if◌then◌else◌}
 use Rattle.std.proofs.Math.Option.{Option, none}
-use Rattle.paper.specs.Bytes.{if◌then◌else◌, bytes}
+use Rattle.paper.specs.Bytes.{bytes}
 use Rattle.paper.specs.Form.{Head, Element}
 use Rattle.paper.specs.Rows.{Row, head_of, longest_of}
 use Rattle.paper.specs.Values.{among}

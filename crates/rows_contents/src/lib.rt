@@ -1,8 +1,8 @@
 // What is judged of an element before what it holds, and what an element holds that has no elements in it: white space in a group, and the judgement of 6 to 8 at a leaf.
 #![tactic(auto)]
 
-ghost use Rattle.std.specs.Prelude.{◌≡◌, [], ◌∷◌, ℕ, ◌+◌, ◌≤◌, ◌<◌, length};
-ghost use Rattle.paper.specs.Bytes.{if◌then◌else◌, white, Every};
+ghost use Rattle.std.specs.Prelude.{◌≡◌, [], ◌∷◌, ℕ, ◌+◌, ◌≤◌, ◌<◌, length, if◌then◌else◌};
+ghost use Rattle.paper.specs.Bytes.{white, Every};
 ghost use Rattle.paper.specs.Form.{Head};
 ghost use Rattle.paper.specs.Values.{among};
 ghost use Rattle.paper.specs.Refusals.{refuse, ends, only_white, first_not, text_refusal, value_refusal};

@@ -1,4 +1,5 @@
 -- Laws about the places of an entry, step by step.
+use Rattle.std.specs.Prelude.{if◌then◌else◌}
 use Prim.Native.Nat.{ℕ, zero, suc, ◌+◌, ◌-◌, ◌<◌, ◌≤◌}
 use mathlib.Core.List.{List, [], ◌∷◌, ◌++◌}
 use mathlib.Core.Bool.{Bool, true, false}
@@ -9,7 +10,7 @@ use native.Mathlib.Nat.{add-zero}
 use lib.Dec.{eqb, ltb}
 use lib.ListN.{get_or}
 use borrow.Author.Tests.{ne_eqb, eqb-false, lt-ltb, le-ltb, ltb-true, ltb-false}
-use Rattle.paper.specs.Bytes.{if◌then◌else◌, same}
+use Rattle.paper.specs.Bytes.{same}
 use Rattle.paper.specs.Rows.{Place, one, opt, plus, either, Profile, name}
 use Rattle.paper.specs.Refusals.{Left, from_here, again, rows_at, required, left_of, first_row, missing_of, missing, Sought, never, early, found, past, named_in, seek_in, seek}
 use Rattle.paper.proofs.Laws.{same_says, false_not_true}

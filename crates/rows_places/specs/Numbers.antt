@@ -1,8 +1,7 @@
 -- The rows of a profile as numbers, so that code never searches them. An entry is a row with its place in these numbers, which has six of them: the row's number; the
 -- row that it is under, or 0; its name's number; its longest length, 0 for a group; where its places start and end.
 -- A place has three: its kind (0 `one`, 1 `opt`, 2 `plus`, 3 `either`) and the two entries that may take it, one of them twice where there is no choice.
-use Rattle.std.specs.Prelude.{ℕ, zero, suc, ◌+◌, ◌-◌, ◌≤◌, ◌<◌, List, [], ◌∷◌, Bool, true, false, ◌&&◌, ◌≡◌, eqb, ltb, get_or}
-use Rattle.paper.specs.Bytes.{if◌then◌else◌}
+use Rattle.std.specs.Prelude.{ℕ, zero, suc, ◌+◌, ◌-◌, ◌≤◌, ◌<◌, List, [], ◌∷◌, Bool, true, false, ◌&&◌, ◌≡◌, eqb, ltb, get_or, if◌then◌else◌}
 use Rattle.paper.specs.Rows.{Place, one, opt, plus, either, name, Contents, text, elements, Row, Profile, row_of}
 use Rattle.paper.specs.Refusals.{Left, from_here, again}
 use Rattle.form_names.specs.Names.{name_number, is_row}

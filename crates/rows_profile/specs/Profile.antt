@@ -1,8 +1,7 @@
 -- The numbers of a profile, laid out as crates/rows_places/specs/Numbers.antt says: an entry for each of its rows, in their order, and the places of its groups, one
 -- group after the other. Both profiles have their places in one table, those of the groups that the instant one has instead or more behind the others; so their entries
 -- differ in the lines of these rows alone.
-use Rattle.std.specs.Prelude.{ℕ, suc, ◌+◌, List, [], ◌∷◌, ◌++◌, map, Bool, true, false, ◌&&◌, ◌||◌, eqb, length, get_or}
-use Rattle.paper.specs.Bytes.{if◌then◌else◌}
+use Rattle.std.specs.Prelude.{ℕ, suc, ◌+◌, List, [], ◌∷◌, ◌++◌, map, Bool, true, false, ◌&&◌, ◌||◌, eqb, length, get_or, if◌then◌else◌}
 use Rattle.paper.specs.Rows.{Place, one, opt, plus, either, text, elements, Row, rows, instant_changes, instant_rows, every_row}
 use Rattle.form_names.specs.Names.{name_number}
 

@@ -1,4 +1,5 @@
 -- Block ids: one block against the earlier ones, and block after block.
+use Rattle.std.specs.Prelude.{if◌then◌else◌}
 use Prim.Native.Nat.{ℕ, ◌+◌, ◌≤◌, ◌<◌}
 use mathlib.Core.List.{List, [], ◌∷◌, ◌++◌}
 use mathlib.Core.Option.{Option, none, some}
@@ -6,7 +7,7 @@ use mathlib.Core.Bool.{Bool, true, false, ◌||◌, not, or-false}
 use mathlib.Core.Path.{◌≡◌, refl, sym, ap, ◌∙◌}
 use native.Mathlib.Omega.{arith}
 use lib.ListN.{length, get_or, length-append}
-use Rattle.paper.specs.Bytes.{if◌then◌else◌, same}
+use Rattle.paper.specs.Bytes.{same}
 use Rattle.paper.specs.Form.{Element}
 use Rattle.paper.specs.Rows.{head_of}
 use Rattle.paper.specs.Payments.{text_of, child, blocks}

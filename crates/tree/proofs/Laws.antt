@@ -1,4 +1,5 @@
 -- What is read from an entry of the tree; the numbers of the rows' names.
+use Rattle.std.specs.Prelude.{if◌then◌else◌}
 use Prim.Native.Nat.{ℕ, ◌<◌}
 use mathlib.Core.List.{List}
 use mathlib.Core.Bool.{Bool, true, ◌&&◌, not}
@@ -6,7 +7,7 @@ use mathlib.Core.Path.{◌≡◌, refl, sym, ap, ◌∙◌}
 use native.Mathlib.Omega.{arith}
 use lib.Dec.{eqb, leb}
 use borrow.Author.Tests.{eqb-true, eqb-false, ne_eqb, not-true}
-use Rattle.paper.specs.Bytes.{if◌then◌else◌, bytes, same}
+use Rattle.paper.specs.Bytes.{bytes, same}
 use Rattle.paper.specs.Form.{Head, Element}
 use Rattle.paper.specs.Rows.{leaf, group, group_under, rows, instant_changes, every_row, name_in, name, head_of}
 use Rattle.form_names.specs.Names.{number_in, name_number, is_row, is_sought}

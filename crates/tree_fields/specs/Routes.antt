@@ -1,7 +1,7 @@
 -- The table of routes, and what its lines say of a payment.
-use Rattle.std.specs.Prelude.{ℕ, List, [], ◌∷◌, Bool, true, ◌≡◌, get_or, eqb}
+use Rattle.std.specs.Prelude.{ℕ, List, [], ◌∷◌, Bool, true, ◌≡◌, get_or, eqb, if◌then◌else◌}
 use Rattle.std.proofs.Math.Option.{Option, none}
-use Rattle.paper.specs.Bytes.{if◌then◌else◌, every}
+use Rattle.paper.specs.Bytes.{every}
 use Rattle.paper.specs.Form.{Element}
 use Rattle.paper.specs.Payments.{Payment, in_payment, in_block, inherited, either_of}
 use Rattle.form_names.specs.Names.{is_sought}

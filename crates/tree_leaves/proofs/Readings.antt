@@ -1,10 +1,10 @@
 -- What a leaf says as a number.
+use Rattle.std.specs.Prelude.{if◌then◌else◌}
 use Prim.Native.Nat.{ℕ}
 use mathlib.Core.List.{List}
 use mathlib.Core.Bool.{Bool, true, false}
 use mathlib.Core.Path.{◌≡◌, sym, ap, ◌∙◌}
 use native.Mathlib.Omega.{arith}
-use Rattle.paper.specs.Bytes.{if◌then◌else◌}
 use Rattle.paper.specs.Values.{number, cents, digits, money}
 use Rattle.paper.proofs.Laws.{false_not_true}
 use Rattle.leaf_numbers.specs.declared.Reading.{Reading}

@@ -1,7 +1,6 @@
 -- Where an element stands in the laid-out tree, found by rows.
-use Rattle.std.specs.Prelude.{ℕ, ◌<◌, List, [], ◌∷◌, true, ◌≡◌, get_or, eqb}
+use Rattle.std.specs.Prelude.{ℕ, ◌<◌, List, [], ◌∷◌, true, ◌≡◌, get_or, eqb, if◌then◌else◌}
 use Rattle.std.proofs.Math.Option.{Option, none, some}
-use Rattle.paper.specs.Bytes.{if◌then◌else◌}
 use Rattle.paper.specs.Form.{Element, Elements}
 use Rattle.paper.specs.Rows.{name}
 use Rattle.paper.specs.Payments.{listed, all_named, child, follow}

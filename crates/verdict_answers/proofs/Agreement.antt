@@ -1,10 +1,10 @@
 -- An answer is known by the rules' numbers for it: two answers with the same numbers are the same.
+use Rattle.std.specs.Prelude.{if◌then◌else◌}
 use Prim.Native.Nat.{ℕ}
 use mathlib.Core.Option.{Option, none, some}
 use mathlib.Core.Path.{◌≡◌, refl, sym, ap, ◌∙◌}
 use lib.Dec.{eqb}
 use mathlib.Core.Bool.{false}
-use Rattle.paper.specs.Bytes.{if◌then◌else◌}
 use Rattle.paper.specs.Refusals.{Refusal, MessageAnswer, refused, accepted}
 use Rattle.paper.specs.Regrouping.{RegroupingAnswer, message_refused, answered}
 use Rattle.paper.specs.Answers.{numbered, refusal_of, refusal_found, verdict_says, regrouping_says}

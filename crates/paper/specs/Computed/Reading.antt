@@ -1,9 +1,9 @@
 -- The written form, read from left to right: the root's element where the text is of the form, and otherwise the offset of refusal 2. Nothing here need be
 -- believed (Computed.antt says why).
-use Rattle.std.specs.Prelude.{ℕ, zero, suc, ◌+◌, List, [], ◌∷◌, ◌++◌, length, drop, eqb, leb}
+use Rattle.std.specs.Prelude.{ℕ, zero, suc, ◌+◌, List, [], ◌∷◌, ◌++◌, length, drop, eqb, leb, if◌then◌else◌}
 use Prim.Native.Char.{code}
 use Rattle.std.proofs.Math.Option.{Option, none, some}
-use Rattle.paper.specs.Bytes.{if◌then◌else◌, bytes, is, white, text_byte, capital, letter, letter_or_digit, same}
+use Rattle.paper.specs.Bytes.{bytes, is, white, text_byte, capital, letter, letter_or_digit, same}
 use Rattle.paper.specs.Form.{Head, Element, Elements, holding_text, holding_elements, []ᵉ, ◌∷ᵉ◌, root_tag, amount_tag, declaration}
 
 -- An element whose start tag has been read.
