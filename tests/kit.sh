@@ -1,17 +1,17 @@
 # Sourced by the tests and the benchmark that need the library outside the prover: where the kit is, the archive, and how C is compiled, linked and run.
-# The archive is x86-64 code on either machine; on aarch64 what is linked with it runs under the kit's emulator.
+# The kit, the archive and what is linked with it are x86-64 code.
 # It expects `set -e` and the repository's root as the current folder.
 
 command -v rt >/dev/null || { echo "the kit's command rt is not on the PATH" >&2; exit 1; }
-kit=$(dirname "$(dirname "$(readlink -f "$(command -v rt)")")")/on/$(uname -m)
+kit=$(dirname "$(rt doc)")
 toolchain=$kit/toolchain
 
 # The archive: the one that GLOWENZO_ARCHIVE names, or else a new one. Sets archive.
 find_archive() {
     archive=${GLOWENZO_ARCHIVE:-}
     if [ -z "$archive" ]; then
-        rt staticlib host
-        archive=target/staticlib/libhost.a
+        (cd crates/host && rt lib)
+        archive=crates/host/out/libhost.a
     fi
     [ -f "$archive" ] || { echo "there is no archive $archive" >&2; exit 1; }
 }
@@ -35,11 +35,8 @@ link_c() {
     }
 }
 
-# The words that run a linked program, which follows them. Sets launch.
+# The words that run a linked program, which follows them: by the kit's C library.
 launch=("$toolchain/lib/ld-linux-x86-64.so.2" --library-path "$toolchain/lib")
-if [ "$(uname -m)" != x86_64 ]; then
-    launch=("$toolchain/bin/qemu-x86_64" "${launch[@]}")
-fi
 
 # need COMMAND PACKAGE..: by apt-get, if there is no such command; the first of the packages that can be had.
 need() {
