@@ -2,7 +2,7 @@
  * Glowenzo for C: the verdict on one pain.001.001.09 message, new or archived, and whether one message regroups another, in the first profile or in the
  * instant one.
  *
- * Link with the archive that `rt staticlib host` writes (target/staticlib/libhost.a, x86-64 Linux).
+ * Link with the archive that `rt lib` in crates/host writes (crates/host/out/libhost.a, x86-64 Linux).
  *
  * Ownership. Everything is lent for the time of the call: the library keeps no pointer, allocates nothing, holds no state between calls and writes
  * nowhere but into the table. Calls may run at the same time on different threads, provided that no other thread writes what is lent or uses the table.
