@@ -18,7 +18,7 @@ use Rattle.paper.specs.Computed.Reading.{Open, closed, State, angle, blank, in_t
 use Rattle.form_scans.specs.Scans.{from, Scanned, to, Along, White, Values, Text}
 use Rattle.tree.specs.Laid.{between}
 use Rattle.form.specs.Reads.{Kept, Roomy, Numbered, AllNumbered, none_numbered, more_numbered, Child, ChildAt, Known, HeldTo, HeldAt, held_scan, held_next, close_of, read_scan, read_next, Holds, Whole, ContentRead, Placed, ElementRead}
-use Rattle.form_scans.specs.declared.Scan.TheVariants.{To, StopsAt}
+use Rattle.form_scans.specs.declared.Scan.TheVariants.{To}
 use Rattle.form.specs.declared.Read.{Read}
 use Rattle.form.specs.declared.Read.TheVariants as read
 use Rattle.form.specs.declared.Held.{Held}

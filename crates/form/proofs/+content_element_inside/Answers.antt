@@ -1,13 +1,10 @@
 use borrow.Author.Rules.{rules}
 use native.Mathlib.Omega.{arith}
-use Prim.Native.Nat.{◌+◌, ◌*◌, ◌-◌}
+use Prim.Native.Nat.{◌+◌}
 use mathlib.Core.Path.{refl}
-use lib.ListN.{length}
-use borrow.Author.Tests.{not-true, not-false}
 use Rattle.tree.specs.Laid.{between}
-use Rattle.form.proofs.ContentLaws.{Passed, none_passed, content_ends, content_stops, one_passed}
+use Rattle.form.proofs.ContentLaws.{none_passed, content_ends, content_stops, one_passed}
 use Rattle.form.proofs.ElementLaws.{is_letter, is_no_letter, in_name, not_in_name, no_letter, too_deep, name_short, name_long, tag_goes, tag_stops, element_read, part_long, as_held, held_stops, end_stops, inside_read}
-use Prim.Native.Nat.{ℕ, ◌<◌}
 use Rattle.form.proofs.+content_element_inside.Goals as goal
 
 pub content-loop-start-init : goal.content-loop-start-init

@@ -1,7 +1,6 @@
 use Rattle.form.specs.Reads.{HeldAt}
 use mathlib.Core.Path.{refl}
 use Rattle.form.proofs.ContentLaws.{behind_children, white_alone, any_text, values_alone}
-use borrow.Author.Rules.{rules}
 use Rattle.form.proofs.ending.Goals as goal
 
 pub returns-then-at-start : goal.returns-then-at-start

@@ -1,7 +1,6 @@
 use native.Mathlib.Omega.{arith}
 use Rattle.form_scans.proofs.Laws.{reached}
 use Rattle.form.proofs.RootLaws.{refused, accepted, trailing}
-use borrow.Author.Rules.{rules}
 use Rattle.form.proofs.form_of.Goals as goal
 
 pub returns-in-StopsAt : goal.returns-in-StopsAt

@@ -3,7 +3,6 @@ use Rattle.paper.specs.Bytes.{bytes}
 use Rattle.form.proofs.ElementLaws.{as_held}
 use Rattle.form.proofs.Numbering.{put_kept}
 use Rattle.form.proofs.RootLaws.{in_root_stops, root_end_stops, in_root-read}
-use borrow.Author.Rules.{rules}
 use Rattle.form.proofs.in_root.Goals as goal
 
 pub returns-in-StopsAt : goal.returns-in-StopsAt

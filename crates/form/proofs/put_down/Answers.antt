@@ -1,7 +1,6 @@
 use native.Mathlib.Omega.{arith}
 use mathlib.Core.Path.{refl}
 use Rattle.form.proofs.Numbering.{put_same}
-use borrow.Author.Rules.{rules}
 use Rattle.form.proofs.put_down.Goals as goal
 
 pub returns-then-i-ge-ELEMENTS : goal.returns-then-i-ge-ELEMENTS

@@ -1,7 +1,6 @@
 use mathlib.Core.Path.{refl}
 use Rattle.form_scans.proofs.Laws.{reached}
 use Rattle.form.proofs.RootLaws.{prologue_stops, whole_root}
-use borrow.Author.Rules.{rules}
 use Rattle.form.proofs.root.Goals as goal
 
 pub root_at-requires : goal.root_at-requires

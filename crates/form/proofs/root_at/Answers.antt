@@ -3,7 +3,6 @@ use Rattle.paper.specs.Bytes.{bytes}
 use Rattle.paper.specs.Form.{root_tag}
 use Rattle.form_scans.proofs.Laws.{reached}
 use Rattle.form.proofs.RootLaws.{root_stops, root_length, root_read}
-use borrow.Author.Rules.{rules}
 use Rattle.form.proofs.root_at.Goals as goal
 
 pub in_root-requires : goal.in_root-requires

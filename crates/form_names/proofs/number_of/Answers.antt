@@ -1,6 +1,4 @@
-use borrow.Author.Rules.{rules}
 use native.Mathlib.Omega.{arith}
-use borrow.Author.Tests.{not-true, not-false}
 use mathlib.Core.Path.{sym, ◌∙◌}
 use Rattle.form_names.proofs.Laws.{not_so_long, wrong_length, wrong_name, right_name}
 use Rattle.form_names.proofs.number_of.Goals as goal

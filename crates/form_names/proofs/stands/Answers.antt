@@ -1,10 +1,7 @@
 use borrow.Author.Rules.{rules}
 use native.Mathlib.Omega.{arith}
-use Prim.Native.Nat.{◌+◌, ◌-◌, ◌≤◌}
-use mathlib.Core.Path.{◌≡◌, sym, ◌∙◌}
-use lib.ListN.{length, take, drop}
-use Rattle.paper.specs.Bytes.{same}
-use Rattle.form_names.proofs.Laws.{left_from, stands_start, stands_goes, stands_stops, stands_ends}
+use mathlib.Core.Path.{sym, ◌∙◌}
+use Rattle.form_names.proofs.Laws.{stands_start, stands_goes, stands_stops, stands_ends}
 use Rattle.form_names.proofs.stands.Goals as goal
 
 pub loop-k-init : goal.loop-k-init

@@ -1,10 +1,8 @@
-use borrow.Author.Rules.{rules}
-use native.Mathlib.Omega.{arith}
 use Prim.Native.Nat.{◌+◌, ◌-◌, ◌≤◌}
-use mathlib.Core.Path.{◌≡◌, sym, ◌∙◌}
+use mathlib.Core.Path.{◌≡◌}
 use lib.ListN.{length, take, drop}
 use Rattle.paper.specs.Bytes.{same}
-use Rattle.form_names.proofs.Laws.{left_from, stands_start, stands_goes, stands_stops, stands_ends}
+use Rattle.form_names.proofs.Laws.{left_from}
 use Rattle.form_names.proofs.stands.Given as goal
 
 abbrev pub invariant-loop-k : goal.invariant-loop-k

@@ -2,7 +2,6 @@ use mathlib.Core.List.{◌++◌}
 use Rattle.paper.specs.Bytes.{bytes}
 use Rattle.paper.specs.Form.{end_tag}
 use Rattle.form_scans.proofs.Laws.{reached, word_halts, word_then}
-use borrow.Author.Rules.{rules}
 use Rattle.form_scans.proofs.end_tag.Goals as goal
 
 pub returns-in-StopsAt : goal.returns-in-StopsAt

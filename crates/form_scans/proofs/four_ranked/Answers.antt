@@ -1,8 +1,6 @@
-use borrow.Author.Rules.{rules}
 use native.Mathlib.Omega.{arith}
 use mathlib.Core.Bool.{true, false≢true}
 use mathlib.Core.Path.{◌≡◌, sym, ◌∙◌}
-use borrow.Author.Tests.{not-false}
 use Rattle.paper.specs.Values.{lies_from}
 use Rattle.form_ranks.specs.Ranks.{rank}
 use Rattle.form_scans.proofs.Laws.{of_four}

@@ -1,14 +1,7 @@
-use borrow.Author.Rules.{rules}
-use native.Mathlib.Omega.{arith}
 use Prim.Native.Nat.{◌-◌, ◌≤◌}
-use mathlib.Core.Bool.{true}
-use mathlib.Core.Path.{◌≡◌, sym, ◌∙◌}
 use lib.ListN.{length}
-use borrow.Author.Tests.{not-true, not-false}
-use Rattle.paper.specs.Values.{lies_from}
-use Rattle.form_ranks.specs.Ranks.{rank, RanksAre}
+use Rattle.form_ranks.specs.Ranks.{RanksAre}
 use Rattle.form_scans.specs.Scans.{Ranked}
-use Rattle.form_scans.proofs.Laws.{one_further, and_then}
 use Rattle.form_scans.proofs.run_end.Given as goal
 
 abbrev pub invariant-loop-i : goal.invariant-loop-i

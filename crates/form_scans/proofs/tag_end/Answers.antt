@@ -2,7 +2,6 @@ use native.Mathlib.Omega.{arith}
 use mathlib.Core.Path.{◌∙◌}
 use borrow.Author.Tests.{eq-eqb, ne_eqb}
 use Rattle.form_scans.proofs.TagLaws.{tag_stops, tag_closes, tag_amount, of_amount, amount_at}
-use borrow.Author.Rules.{rules}
 use Rattle.form_scans.proofs.tag_end.Goals as goal
 
 pub returns-then-s-at : goal.returns-then-s-at

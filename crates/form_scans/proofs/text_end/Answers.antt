@@ -1,4 +1,3 @@
-use borrow.Author.Rules.{rules}
 use native.Mathlib.Omega.{arith}
 use Rattle.paper.specs.Bytes.{text_byte}
 use Rattle.form_scans.proofs.Laws.{along_run, text_class}

@@ -1,6 +1,4 @@
-use borrow.Author.Tests.{not-true, not-false}
 use Rattle.form_scans.proofs.TagLaws.{three_read, first_missing, second_missing, third_missing}
-use borrow.Author.Rules.{rules}
 use Rattle.form_scans.proofs.three_capitals.Goals as goal
 
 pub returns-then-not-capital_at : goal.returns-then-not-capital_at

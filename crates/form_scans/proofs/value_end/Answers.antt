@@ -1,4 +1,3 @@
-use borrow.Author.Rules.{rules}
 use native.Mathlib.Omega.{arith}
 use Rattle.paper.specs.Bytes.{value_character}
 use Rattle.form_scans.proofs.Laws.{along_run, value_is_text, value_class}

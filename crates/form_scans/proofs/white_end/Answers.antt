@@ -1,4 +1,3 @@
-use borrow.Author.Rules.{rules}
 use native.Mathlib.Omega.{arith}
 use Rattle.paper.specs.Bytes.{white}
 use Rattle.form_ranks.proofs.Classes.{white_from}

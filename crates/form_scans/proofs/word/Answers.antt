@@ -1,9 +1,5 @@
 use borrow.Author.Rules.{rules}
-use Prim.Native.Nat.{◌+◌, ◌-◌, ◌≤◌}
-use mathlib.Core.Path.{◌≡◌, refl, ◌∙◌}
-use lib.ListN.{length, drop}
-use Rattle.paper.specs.Computed.Reading.{State, want}
-use Rattle.form_scans.specs.Scans.{from}
+use mathlib.Core.Path.{refl, ◌∙◌}
 use Rattle.form_scans.proofs.Laws.{word_next, word_stuck, word_short, word_end, word_to, word_stops}
 use Rattle.form_scans.proofs.word.Goals as goal
 

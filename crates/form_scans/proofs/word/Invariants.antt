@@ -1,10 +1,8 @@
-use borrow.Author.Rules.{rules}
 use Prim.Native.Nat.{◌+◌, ◌-◌, ◌≤◌}
-use mathlib.Core.Path.{◌≡◌, refl, ◌∙◌}
+use mathlib.Core.Path.{◌≡◌}
 use lib.ListN.{length, drop}
 use Rattle.paper.specs.Computed.Reading.{State, want}
 use Rattle.form_scans.specs.Scans.{from}
-use Rattle.form_scans.proofs.Laws.{word_next, word_stuck, word_short, word_end, word_to, word_stops}
 use Rattle.form_scans.proofs.word.Given as goal
 
 -- The loop has found the bytes equal so far, so the machine wants the others.

@@ -1,10 +1,8 @@
-use borrow.Author.Rules.{rules}
 use native.Mathlib.Omega.{arith}
 use mathlib.Core.Path.{◌≡◌, sym, ◌∙◌}
 use lib.ListN.{take, drop, length-take}
-use borrow.Author.Tests.{not-true, not-false}
 use Rattle.paper.specs.Bytes.{bytes, every, capital_or_digit}
-use Rattle.paper.specs.Values.{lies_from, number, piece, shaped, of_a_country, iban, countries}
+use Rattle.paper.specs.Values.{lies_from, number, piece, iban, countries}
 use Rattle.leaf_texts.specs.Shapes.{fits_byte}
 use Rattle.leaf_texts.proofs.Laws.{shaped_is, pairwise-length, rest_is, every-capital_or_digit}
 use Rattle.leaf_numbers.proofs.Laws.{spelled_part}

@@ -1,4 +1,3 @@
-use borrow.Author.Rules.{rules}
 use native.Mathlib.Omega.{arith}
 use Rattle.leaf_accounts.specs.Remainders.{read_one}
 use Rattle.leaf_accounts.proofs.read_one.Goals as goal

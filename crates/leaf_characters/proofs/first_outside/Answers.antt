@@ -1,12 +1,9 @@
-use borrow.Author.Rules.{rules}
 use native.Mathlib.Omega.{arith}
-use Prim.Native.Nat.{ℕ, ◌+◌, ◌-◌, ◌≤◌, ◌<◌}
+use Prim.Native.Nat.{ℕ, ◌≤◌, ◌<◌}
 use mathlib.Core.Bool.{true, false}
 use mathlib.Core.Path.{◌≡◌, ◌∙◌}
-use lib.ListN.{length, drop}
 use borrow.Author.Tests.{le-leb, lt-leb}
 use Rattle.paper.specs.Bytes.{value_character}
-use Rattle.paper.specs.Refusals.{first_not}
 use Rattle.leaf_texts.proofs.Laws.{first_goes, first_stops, first_ends}
 use Rattle.form_ranks.specs.Ranks.{rank}
 use Rattle.form_ranks.proofs.Classes.{value_from}

@@ -1,4 +1,3 @@
-use borrow.Author.Rules.{rules}
 use mathlib.Core.Path.{◌∙◌}
 use Rattle.leaf_texts.proofs.Laws.{every_space}
 use Rattle.leaf_characters.proofs.spaces_alone.Goals as goal

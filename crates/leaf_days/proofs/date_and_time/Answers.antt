@@ -1,9 +1,8 @@
-use borrow.Author.Rules.{rules}
 use native.Mathlib.Omega.{arith}
-use mathlib.Core.Path.{◌≡◌, sym, ◌∙◌}
-use borrow.Author.Tests.{not-true, not-false, lt-leb, le-leb}
+use mathlib.Core.Path.{sym, ◌∙◌}
+use borrow.Author.Tests.{lt-leb, le-leb}
 use Rattle.paper.specs.Bytes.{bytes}
-use Rattle.paper.specs.Values.{shaped, date, number, piece, date_and_time}
+use Rattle.paper.specs.Values.{piece, date_and_time}
 use Rattle.leaf_texts.specs.Shapes.{fits_byte}
 use Rattle.leaf_texts.proofs.Laws.{shaped_is, pairwise-same-length}
 use Rattle.leaf_numbers.proofs.Laws.{spelled_part}

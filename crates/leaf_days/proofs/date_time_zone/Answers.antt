@@ -1,6 +1,4 @@
-use borrow.Author.Rules.{rules}
 use mathlib.Core.Path.{sym, ◌∙◌}
-use borrow.Author.Tests.{not-true, not-false}
 use Rattle.paper.specs.Values.{date_time_zone}
 use Rattle.leaf_texts.proofs.Laws.{rest_is}
 use Rattle.leaf_days.proofs.Times.{short_time}

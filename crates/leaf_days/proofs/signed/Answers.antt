@@ -1,4 +1,3 @@
-use borrow.Author.Rules.{rules}
 use mathlib.Core.Path.{sym, ◌∙◌}
 use Rattle.paper.specs.Bytes.{bytes}
 use Rattle.leaf_texts.proofs.Laws.{shaped_is}

@@ -1,6 +1,4 @@
-use borrow.Author.Rules.{rules}
 use mathlib.Core.Path.{sym, ◌∙◌}
-use borrow.Author.Tests.{not-true, not-false}
 use Rattle.paper.specs.Values.{true_day}
 use Rattle.leaf_days.proofs.true_day.Goals as goal
 

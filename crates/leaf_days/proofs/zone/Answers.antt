@@ -1,7 +1,6 @@
-use borrow.Author.Rules.{rules}
 use native.Mathlib.Omega.{arith}
 use mathlib.Core.Path.{sym, ◌∙◌}
-use borrow.Author.Tests.{not-true, not-false, lt-leb, le-leb}
+use borrow.Author.Tests.{lt-leb, le-leb}
 use Rattle.paper.specs.Bytes.{bytes}
 use Rattle.paper.specs.Values.{zone}
 use Rattle.leaf_numbers.proofs.Laws.{spelled_part}

@@ -1,4 +1,3 @@
-use borrow.Author.Rules.{rules}
 use borrow.Author.Tests.{ne_eqb}
 use Rattle.paper.specs.Bytes.{is}
 use Rattle.paper.specs.Values.{id}

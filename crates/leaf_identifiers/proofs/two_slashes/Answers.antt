@@ -1,8 +1,5 @@
 use borrow.Author.Rules.{rules}
-use Prim.Native.Nat.{◌-◌, ◌≤◌}
-use mathlib.Core.Path.{◌≡◌, sym, ◌∙◌}
-use lib.ListN.{length, drop}
-use Rattle.paper.specs.Values.{two_slashes}
+use mathlib.Core.Path.{sym, ◌∙◌}
 use Rattle.leaf_texts.proofs.Laws.{slashes_goes, slashes_stops, slashes_ends}
 use Rattle.leaf_identifiers.proofs.two_slashes.Goals as goal
 

@@ -1,9 +1,7 @@
-use borrow.Author.Rules.{rules}
 use Prim.Native.Nat.{◌-◌, ◌≤◌}
-use mathlib.Core.Path.{◌≡◌, sym, ◌∙◌}
+use mathlib.Core.Path.{◌≡◌}
 use lib.ListN.{length, drop}
 use Rattle.paper.specs.Values.{two_slashes}
-use Rattle.leaf_texts.proofs.Laws.{slashes_goes, slashes_stops, slashes_ends}
 use Rattle.leaf_identifiers.proofs.two_slashes.Given as goal
 
 abbrev pub invariant-loop-i : goal.invariant-loop-i

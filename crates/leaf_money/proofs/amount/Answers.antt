@@ -1,4 +1,3 @@
-use borrow.Author.Rules.{rules}
 use mathlib.Core.Path.{sym, ◌∙◌}
 use Rattle.paper.specs.Values.{amount}
 use Rattle.leaf_money.proofs.Cents.{in_cents_not, in_cents-number}

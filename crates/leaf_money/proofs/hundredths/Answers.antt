@@ -1,4 +1,3 @@
-use borrow.Author.Rules.{rules}
 use native.Mathlib.Omega.{arith}
 use mathlib.Core.Path.{sym}
 use Rattle.leaf_money.proofs.Cents.{hundredths_none, hundredths_one, hundredths_two}

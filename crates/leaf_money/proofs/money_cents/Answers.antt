@@ -1,11 +1,6 @@
-use borrow.Author.Rules.{rules}
 use native.Mathlib.Omega.{arith}
-use mathlib.Core.Path.{◌≡◌, sym, ◌∙◌}
-use lib.ListN.{take}
-use mathlib.Core.Bool.{true}
-use borrow.Author.Tests.{not-true, not-false}
+use mathlib.Core.Path.{sym, ◌∙◌}
 use lib.ListN.{length-take}
-use Rattle.paper.specs.Values.{digits, number}
 use Rattle.leaf_money.proofs.Cents.{no_money, whole_money, part_not_money, part_money, point_within}
 use Rattle.leaf_numbers.proofs.Laws.{spelled, digits_most}
 use Rattle.leaf_money.proofs.money_cents.Goals as goal

@@ -1,9 +1,4 @@
-use borrow.Author.Rules.{rules}
 use native.Mathlib.Omega.{arith}
-use Prim.Native.Nat.{◌+◌, ◌-◌, ◌≤◌}
-use mathlib.Core.Path.{◌≡◌}
-use lib.ListN.{length, drop}
-use Rattle.paper.specs.Values.{before_point}
 use Rattle.leaf_money.proofs.Cents.{point_goes, point_stops, point_ends}
 use Rattle.leaf_money.proofs.point.Goals as goal
 

@@ -1,6 +1,4 @@
-use borrow.Author.Rules.{rules}
 use mathlib.Core.Path.{sym, ap, ◌∙◌}
-use borrow.Author.Tests.{not-true, not-false}
 use Rattle.leaf_numbers.specs.Readings.{as_count}
 use Rattle.leaf_numbers.specs.declared.Reading.TheVariants.{Number}
 use Rattle.leaf_numbers.proofs.Laws.{spelled, digits_most}

@@ -1,10 +1,8 @@
 use borrow.Author.Rules.{rules}
 use native.Mathlib.Omega.{arith}
-use Prim.Native.Nat.{◌-◌, ◌≤◌}
-use mathlib.Core.Path.{◌≡◌, refl}
-use lib.ListN.{length, take}
+use mathlib.Core.Path.{refl}
 use Rattle.paper.specs.Values.{number, number_after}
-use Rattle.leaf_numbers.proofs.Laws.{Small, number_next, small_zero, small_goes, small_fits, spells_end, spells_full}
+use Rattle.leaf_numbers.proofs.Laws.{number_next, small_zero, small_goes, small_fits, spells_end, spells_full}
 use Rattle.leaf_numbers.proofs.number.Goals as goal
 
 pub loop-i-init : goal.loop-i-init

@@ -1,10 +1,8 @@
-use borrow.Author.Rules.{rules}
-use native.Mathlib.Omega.{arith}
 use Prim.Native.Nat.{◌-◌, ◌≤◌}
-use mathlib.Core.Path.{◌≡◌, refl}
+use mathlib.Core.Path.{◌≡◌}
 use lib.ListN.{length, take}
-use Rattle.paper.specs.Values.{number, number_after}
-use Rattle.leaf_numbers.proofs.Laws.{Small, number_next, small_zero, small_goes, small_fits, spells_end, spells_full}
+use Rattle.paper.specs.Values.{number}
+use Rattle.leaf_numbers.proofs.Laws.{Small}
 use Rattle.leaf_numbers.proofs.number.Given as goal
 
 abbrev pub invariant-loop-i : goal.invariant-loop-i

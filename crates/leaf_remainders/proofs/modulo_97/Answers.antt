@@ -1,4 +1,3 @@
-use borrow.Author.Rules.{rules}
 use mathlib.Core.Path.{◌∙◌}
 use Rattle.leaf_remainders.specs.Remainders.{modulo_97}
 use Rattle.leaf_remainders.proofs.Laws.{one_behind_the_other}

@@ -1,4 +1,3 @@
-use borrow.Author.Rules.{rules}
 use native.Mathlib.Omega.{arith}
 use Rattle.leaf_remainders.proofs.Laws.{alone}
 use Rattle.leaf_remainders.proofs.read_as.Goals as goal

@@ -1,4 +1,3 @@
-use borrow.Author.Rules.{rules}
 use Rattle.leaf_values.proofs.Laws.{all_first}
 use Rattle.leaf_values.proofs.first_outside.Goals as goal
 

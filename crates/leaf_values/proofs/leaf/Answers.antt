@@ -1,6 +1,4 @@
-use borrow.Author.Rules.{rules}
 use mathlib.Core.Path.{sym, ◌∙◌}
-use borrow.Author.Tests.{not-true, not-false}
 use Rattle.paper.specs.Bytes.{value_character}
 use Rattle.leaf_texts.proofs.Laws.{none_first}
 use Rattle.leaf_values.proofs.Laws.{empty_judges, long_judges, outside_judges, spaces_judges, not_allowed_judges, fine_judges}

@@ -1,5 +1,4 @@
 use Rattle.move_alike.specs.Alike.{is_absent}
-use borrow.Author.Rules.{rules}
 use Rattle.move_alike.proofs.absent.Goals as goal
 
 pub returns-in-At : goal.returns-in-At

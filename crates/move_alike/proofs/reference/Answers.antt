@@ -4,7 +4,6 @@ use Rattle.paper.specs.Bytes.{every}
 use Rattle.form_names.specs.Names.{is_sought}
 use Rattle.tree_routes.specs.Finds.{rows_in}
 use Rattle.move_alike.proofs.Alike.{in_payment_found}
-use borrow.Author.Rules.{rules}
 use Rattle.move_alike.proofs.reference.Goals as goal
 
 pub returns : goal.returns

@@ -1,7 +1,6 @@
 use mathlib.Core.Path.{◌∙◌}
 use Rattle.move_alike.proofs.Alike.{first_absent, first_alone, both_there, one_text}
 use Rattle.tree_routes.proofs.WhatIsFound.{found_none, found_some}
-use borrow.Author.Rules.{rules}
 use Rattle.move_alike.proofs.same_given.Goals as goal
 
 pub returns-in_default : goal.returns-in_default

@@ -1,7 +1,6 @@
 use Rattle.move_alike.proofs.Alike.{meant_first, meant_second, both_said, one_text}
 use Rattle.tree_routes.proofs.WhatIsFound.{found_none, found_some}
 use mathlib.Core.Path.{refl}
-use borrow.Author.Rules.{rules}
 use Rattle.move_alike.proofs.same_or.Goals as goal
 
 pub returns-in_default : goal.returns-in_default

@@ -1,7 +1,6 @@
 use Rattle.move_alike.proofs.Alike.{free_first, free_second, not_free}
 use Rattle.tree_routes.proofs.WhatIsFound.{found_none, found_some}
 use Rattle.move_alike.specs.Alike.{free_of, issuer_of, reference_of}
-use borrow.Author.Rules.{rules}
 use Rattle.move_alike.proofs.same_remittance.Goals as goal
 
 pub returns-in-At : goal.returns-in-At

@@ -1,8 +1,6 @@
 use Rattle.move_alike.proofs.Alike.{references_differ, no_reference, references_agree}
 use Rattle.tree_routes.proofs.WhatIsFound.{found_none, found_some}
-use borrow.Author.Tests.{not-true, not-false}
 use Rattle.move_alike.specs.Alike.{issuer_of, reference_of}
-use borrow.Author.Rules.{rules}
 use Rattle.move_alike.proofs.same_structured.Goals as goal
 
 pub returns-then-not-same_given : goal.returns-then-not-same_given

@@ -1,13 +1,8 @@
-use Rattle.move_compared.proofs.Compared.{from_field, field_differs, field_agrees, no_field_differs}
-use borrow.Author.Tests.{not-true, not-false}
+use Rattle.move_compared.proofs.Compared.{field_differs, field_agrees, no_field_differs}
 use borrow.Author.Rules.{rules}
 use native.Mathlib.Omega.{arith}
-use Prim.Native.Nat.{◌-◌, ◌≤◌}
-use mathlib.Core.Path.{◌≡◌, refl, sym, ◌∙◌}
-use Rattle.paper.specs.Payments.{Payment}
-use Rattle.paper.specs.Fields.{values_of, differ_from}
-use Rattle.tree_fields.specs.Routes.{RoutesAre}
-use Rattle.move_compared.specs.Compared.{Stands, lowest}
+use mathlib.Core.Path.{refl, sym, ◌∙◌}
+use Rattle.move_compared.specs.Compared.{lowest}
 use Rattle.move_compared.proofs.differing.Goals as goal
 
 pub loop-field-init : goal.loop-field-init

@@ -1,13 +1,10 @@
-use Rattle.move_compared.proofs.Compared.{from_field, field_differs, field_agrees, no_field_differs}
-use borrow.Author.Tests.{not-true, not-false}
-use borrow.Author.Rules.{rules}
-use native.Mathlib.Omega.{arith}
+use Rattle.move_compared.proofs.Compared.{from_field}
 use Prim.Native.Nat.{◌-◌, ◌≤◌}
-use mathlib.Core.Path.{◌≡◌, refl, sym, ◌∙◌}
+use mathlib.Core.Path.{◌≡◌}
 use Rattle.paper.specs.Payments.{Payment}
 use Rattle.paper.specs.Fields.{values_of, differ_from}
 use Rattle.tree_fields.specs.Routes.{RoutesAre}
-use Rattle.move_compared.specs.Compared.{Stands, lowest}
+use Rattle.move_compared.specs.Compared.{Stands}
 use Rattle.move_compared.proofs.differing.Given as goal
 
 abbrev pub invariant-loop-field : goal.invariant-loop-field

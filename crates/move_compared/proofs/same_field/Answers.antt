@@ -1,6 +1,5 @@
 use Rattle.move_compared.proofs.Compared.{remittance_field, batch_field, priority_field, cents_field, amount_element, plain_field}
 use Rattle.paper.specs.Bytes.{bytes}
-use borrow.Author.Rules.{rules}
 use Rattle.move_compared.proofs.same_field.Goals as goal
 
 pub returns-then-field-eq17 : goal.returns-then-field-eq17

@@ -1,7 +1,6 @@
 use native.Mathlib.Omega.{arith}
 use mathlib.Core.Path.{◌∙◌}
 use Rattle.move_lists.proofs.Lists.{past-list, formed, ordinal_is}
-use borrow.Author.Rules.{rules}
 use Rattle.move_lists.proofs.ordinal.Goals as goal
 
 pub returns-then-list-k : goal.returns-then-list-k

@@ -1,7 +1,5 @@
-use borrow.Author.Tests.{not-true, not-false}
 use Rattle.paper.specs.Bytes.{bytes}
 use Rattle.move_lists.proofs.Lists.{too_short, other_tag, other_version, other_count, of_the_form}
-use borrow.Author.Rules.{rules}
 use Rattle.move_lists.proofs.ordinals.Goals as goal
 
 pub returns-then-list-lt7 : goal.returns-then-list-lt7

@@ -1,4 +1,3 @@
-use borrow.Author.Rules.{rules}
 use Rattle.move_pairs.proofs.differing_pair.Goals as goal
 
 pub returns : goal.returns

@@ -1,14 +1,8 @@
-use Rattle.move_pairs.proofs.Pairs.{SoFar, at_start, at_end, answers_18, answers_19, answers_20, goes_on}
+use Rattle.move_pairs.proofs.Pairs.{at_start, at_end, answers_18, answers_19, answers_20, goes_on}
 use borrow.Author.Rules.{rules}
 use native.Mathlib.Omega.{arith}
-use Prim.Native.Nat.{ℕ, ◌-◌, ◌≤◌}
-use mathlib.Core.List.{List}
-use mathlib.Core.Option.{some}
-use mathlib.Core.Path.{◌≡◌}
-use lib.ListN.{length}
-use Rattle.paper.specs.Form.{Element}
-use Rattle.paper.specs.Regrouping.{ordinals_of, all_values}
-use Rattle.move_pairs.specs.Pairs.{InOrder, Known, pairs_say}
+use Rattle.paper.specs.Regrouping.{all_values}
+use Rattle.move_pairs.specs.Pairs.{pairs_say}
 use Rattle.move_pairs.proofs.pairing.Goals as goal
 
 pub loop-k-init : goal.loop-k-init

@@ -1,6 +1,4 @@
-use Rattle.move_pairs.proofs.Pairs.{SoFar, at_start, at_end, answers_18, answers_19, answers_20, goes_on}
-use borrow.Author.Rules.{rules}
-use native.Mathlib.Omega.{arith}
+use Rattle.move_pairs.proofs.Pairs.{SoFar}
 use Prim.Native.Nat.{ℕ, ◌-◌, ◌≤◌}
 use mathlib.Core.List.{List}
 use mathlib.Core.Option.{some}
@@ -8,7 +6,7 @@ use mathlib.Core.Path.{◌≡◌}
 use lib.ListN.{length}
 use Rattle.paper.specs.Form.{Element}
 use Rattle.paper.specs.Regrouping.{ordinals_of, all_values}
-use Rattle.move_pairs.specs.Pairs.{InOrder, Known, pairs_say}
+use Rattle.move_pairs.specs.Pairs.{InOrder, Known}
 use Rattle.move_pairs.proofs.pairing.Given as goal
 
 abbrev pub invariant-loop-k : goal.invariant-loop-k

@@ -1,4 +1,3 @@
-use borrow.Author.Rules.{rules}
 use Rattle.rule_limits.proofs.First.{payment_there}
 use Rattle.move_pairs.proofs.payment.Goals as goal
 

@@ -1,10 +1,7 @@
-use borrow.Author.Rules.{rules}
 use native.Mathlib.Omega.{arith}
 use mathlib.Core.Path.{◌∙◌, sym}
-use mathlib.Core.Logic.{⊎_elim}
 use Rattle.tree.proofs.Laws.{few_enough, entry_of}
-use Rattle.rows.proofs.Walking.{Among, group_starts, no_way_back, child_not_found, child_refused, child_passed, group_ends, text_in_group, text_in_leaf, elements_in_group, elements_in_leaf, withdrawn}
-use Prim.Native.Nat.{ℕ, ◌+◌, ◌*◌, ◌-◌, ◌<◌}
+use Rattle.rows.proofs.Walking.{group_starts, no_way_back, child_not_found, child_refused, child_passed, group_ends, text_in_group, text_in_leaf, elements_in_group, elements_in_leaf, withdrawn}
 use Rattle.rows.proofs.+children_element.Goals as goal
 
 pub children-loop-child-init : goal.children-loop-child-init

@@ -1,4 +1,3 @@
-use borrow.Author.Rules.{rules}
 use Rattle.rows_contents.proofs.Judgings.{rows_judged}
 use Rattle.rows.proofs.FromRoot.{judges_values}
 use Rattle.rows.proofs.judging_of.Goals as goal

@@ -1,4 +1,3 @@
-use borrow.Author.Rules.{rules}
 use Rattle.paper.specs.Answers.{refusal_found, refusal_of, numbered}
 use Rattle.paper.specs.Refusals.{refuse}
 use Rattle.rows.specs.Walk.{unless_found}

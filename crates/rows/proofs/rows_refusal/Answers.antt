@@ -1,4 +1,3 @@
-use borrow.Author.Rules.{rules}
 use Rattle.rows.proofs.FromRoot.{root_of_text, root_of_elements}
 use Rattle.rows.proofs.rows_refusal.Goals as goal
 

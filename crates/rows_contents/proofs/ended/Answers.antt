@@ -1,4 +1,3 @@
-use borrow.Author.Rules.{rules}
 use Rattle.paper.specs.Answers.{refusal_found, refusal_of, numbered}
 use Rattle.paper.specs.Refusals.{refuse}
 use Rattle.rows_contents.proofs.Leaves.{ends_early, ends_well}

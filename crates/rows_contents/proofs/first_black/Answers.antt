@@ -1,11 +1,6 @@
-use borrow.Author.Rules.{rules}
 use native.Mathlib.Omega.{arith}
-use Prim.Native.Nat.{◌+◌, ◌-◌, ◌≤◌}
-use mathlib.Core.Path.{◌≡◌, sym, ◌∙◌}
-use lib.ListN.{length, drop}
-use borrow.Author.Tests.{not-true, not-false}
+use mathlib.Core.Path.{sym, ◌∙◌}
 use Rattle.paper.specs.Bytes.{white}
-use Rattle.paper.specs.Refusals.{first_not}
 use Rattle.leaf_texts.proofs.Laws.{first_goes, first_stops, first_ends}
 use Rattle.leaf_values.proofs.Laws.{all_first}
 use Rattle.rows_contents.proofs.first_black.Goals as goal

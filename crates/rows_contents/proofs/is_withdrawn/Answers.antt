@@ -1,6 +1,3 @@
-use borrow.Author.Rules.{rules}
-use native.Mathlib.Omega.{arith}
-use mathlib.Core.Logic.{⊎_elim}
 use Rattle.rows_contents.proofs.Judgings.{one_withdrawn, none_withdrawn}
 use Rattle.rows_contents.proofs.is_withdrawn.Goals as goal
 

@@ -1,6 +1,3 @@
-use borrow.Author.Rules.{rules}
-use native.Mathlib.Omega.{arith}
-use mathlib.Core.Logic.{⊎_elim}
 use Rattle.paper.specs.Answers.{refusal_found}
 use Rattle.rows_contents.specs.Judged.{at_text}
 use Rattle.rows_contents.proofs.Judgings.{judges_text}

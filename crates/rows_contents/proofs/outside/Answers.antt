@@ -2,7 +2,6 @@ use mathlib.Core.Path.{refl}
 use native.Mathlib.Omega.{arith}
 use Rattle.paper.specs.Answers.{refusal_found, refusal_of, numbered}
 use Rattle.paper.specs.Refusals.{refuse}
-use borrow.Author.Rules.{rules}
 use Rattle.rows_contents.proofs.outside.Goals as goal
 
 pub returns-then-s-start : goal.returns-then-s-start

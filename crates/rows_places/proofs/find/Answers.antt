@@ -1,11 +1,5 @@
 use borrow.Author.Rules.{rules}
-use Prim.Native.Nat.{ℕ, ◌-◌, ◌≤◌}
-use mathlib.Core.List.{List}
-use Rattle.paper.specs.Form.{Head}
-use Rattle.paper.specs.Rows.{Profile}
-use Rattle.tree.specs.Laid.{Entry}
-use Rattle.rows_places.specs.Seek.{ResolvedBetween}
-use Rattle.rows_places.proofs.Places.{SoFar, find_starts, find_goes, find_stops, find_ends}
+use Rattle.rows_places.proofs.Places.{find_starts, find_goes, find_stops, find_ends}
 use Rattle.rows_places.proofs.find.Goals as goal
 
 pub loop-p-init : goal.loop-p-init

@@ -1,9 +1,7 @@
-use borrow.Author.Rules.{rules}
-use Prim.Native.Nat.{ℕ, ◌-◌}
-use mathlib.Core.Path.{◌≡◌, refl, sym, ap, ◌∙◌}
+use Prim.Native.Nat.{ℕ}
+use mathlib.Core.Path.{refl, sym, ap, ◌∙◌}
 use mathlib.Core.Option.{some}
-use Rattle.paper.specs.Refusals.{missing_of}
-use Rattle.rows_places.specs.Numbers.{of_entry, places_between}
+use Rattle.rows_places.specs.Numbers.{of_entry}
 use Rattle.rows_places.specs.Seek.{lacking}
 use Rattle.rows_places.proofs.Places.{missing_goes, missing_stops, missing-ends}
 use Rattle.rows_places.proofs.missing.Goals as goal

@@ -1,11 +1,7 @@
-use borrow.Author.Rules.{rules}
-use Prim.Native.Nat.{ℕ, ◌-◌}
-use mathlib.Core.Path.{◌≡◌, refl, sym, ap, ◌∙◌}
-use mathlib.Core.Option.{some}
+use Prim.Native.Nat.{◌-◌}
+use mathlib.Core.Path.{◌≡◌}
 use Rattle.paper.specs.Refusals.{missing_of}
-use Rattle.rows_places.specs.Numbers.{of_entry, places_between}
-use Rattle.rows_places.specs.Seek.{lacking}
-use Rattle.rows_places.proofs.Places.{missing_goes, missing_stops, missing-ends}
+use Rattle.rows_places.specs.Numbers.{places_between}
 use Rattle.rows_places.proofs.missing.Given as goal
 
 abbrev pub invariant-loop-p : goal.invariant-loop-p

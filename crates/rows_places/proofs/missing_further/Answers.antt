@@ -1,9 +1,7 @@
 use mathlib.Core.Path.{sym}
 use native.Mathlib.Omega.{arith}
-use borrow.Author.Tests.{not-true, not-false}
 use Rattle.rows_places.specs.Seek.{lacking}
 use Rattle.rows_places.proofs.Places.{missing-ends, missing_fresh, missing_on}
-use borrow.Author.Rules.{rules}
 use Rattle.rows_places.proofs.missing_further.Goals as goal
 
 pub returns-then-not-seen : goal.returns-then-not-seen

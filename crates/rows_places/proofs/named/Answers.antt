@@ -1,5 +1,4 @@
 use Rattle.tree.proofs.Laws.{name_cell}
-use borrow.Author.Rules.{rules}
 use Rattle.rows_places.proofs.named.Goals as goal
 
 pub returns : goal.returns

@@ -1,6 +1,5 @@
 use mathlib.Core.Path.{sym, ◌∙◌}
 use native.Mathlib.Omega.{arith}
-use borrow.Author.Rules.{rules}
 use Rattle.rows_places.proofs.Places.{number_there, no_line, no_number}
 use Rattle.rows_places.proofs.of_place.Goals as goal
 

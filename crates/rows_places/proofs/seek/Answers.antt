@@ -1,7 +1,6 @@
 use mathlib.Core.Path.{sym, ◌∙◌}
 use native.Mathlib.Omega.{arith}
 use Rattle.rows_places.proofs.Places.{seek_never, at_inside, seek_early, seek_plus, seek_once}
-use borrow.Author.Rules.{rules}
 use Rattle.rows_places.proofs.seek.Goals as goal
 
 pub returns-in_default : goal.returns-in_default

@@ -1,8 +1,6 @@
 use mathlib.Core.Path.{sym, ◌∙◌}
 use native.Mathlib.Omega.{arith}
-use borrow.Author.Tests.{not-true, not-false}
 use Rattle.rows_places.proofs.Places.{seek_fresh, seek_seen, seek_again, seek_on}
-use borrow.Author.Rules.{rules}
 use Rattle.rows_places.proofs.seek_further.Goals as goal
 
 pub returns-then-not-seen : goal.returns-then-not-seen

@@ -1,7 +1,6 @@
 use mathlib.Core.Path.{sym, ◌∙◌}
 use native.Mathlib.Omega.{arith}
 use Rattle.rows_places.proofs.Places.{by_first, by_nobody, by_second, by_neither}
-use borrow.Author.Rules.{rules}
 use Rattle.rows_places.proofs.taken_by.Goals as goal
 
 pub returns-then-named : goal.returns-then-named

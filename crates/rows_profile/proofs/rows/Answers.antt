@@ -1,4 +1,3 @@
-use borrow.Author.Rules.{rules}
 use mathlib.Core.Path.{refl}
 use Rattle.paper.specs.Bytes.{bytes, same}
 use Rattle.paper.specs.Rows.{rows, instant_changes, every_row, leaf, group, group_under}

@@ -1,13 +1,4 @@
-use Prim.Native.Nat.{ℕ, ◌+◌, ◌-◌, ◌≤◌}
-use mathlib.Core.Path.{◌≡◌}
-use mathlib.Core.List.{List, ◌++◌}
-use lib.ListN.{length}
-use Rattle.paper.specs.Payments.{Payment}
-use Rattle.paper.specs.Accepted.{All}
-use Rattle.rule_limits.specs.Ordered.{PaymentsAt}
-use Rattle.rule_counts.specs.Counted.{InBlock, BehindBlock}
-use Rattle.rule_counts.proofs.EachBlock.{Passing, passing, block_over, block_goes, payments_over}
-use borrow.Author.Rules.{rules}
+use Rattle.rule_counts.proofs.EachBlock.{passing, block_over, block_goes, payments_over}
 use Rattle.rule_counts.proofs.block_end.Goals as goal
 
 pub loop-at-init : goal.loop-at-init

@@ -6,8 +6,7 @@ use Rattle.paper.specs.Payments.{Payment}
 use Rattle.paper.specs.Accepted.{All}
 use Rattle.rule_limits.specs.Ordered.{PaymentsAt}
 use Rattle.rule_counts.specs.Counted.{InBlock, BehindBlock}
-use Rattle.rule_counts.proofs.EachBlock.{Passing, passing, block_over, block_goes, payments_over}
-use borrow.Author.Rules.{rules}
+use Rattle.rule_counts.proofs.EachBlock.{Passing}
 use Rattle.rule_counts.proofs.block_end.Given as goal
 
 abbrev pub invariant-loop-at : goal.invariant-loop-at

@@ -6,7 +6,6 @@ use Rattle.paper.specs.Payments.{text_of}
 use Rattle.paper.specs.Answers.{refusal_of}
 use Rattle.paper.specs.declared.Fault.TheVariants.{CountDiffers}
 use Rattle.rule_limits.proofs.Refusing.{leaf_absent, leaf_right, leaf_wrong}
-use borrow.Author.Rules.{rules}
 use Rattle.rule_counts.proofs.count_is.Goals as goal
 
 pub returns-in_default : goal.returns-in_default

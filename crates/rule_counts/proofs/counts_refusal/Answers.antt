@@ -1,7 +1,6 @@
 use mathlib.Core.Path.{◌∙◌}
 use Rattle.paper.specs.Payments.{blocks as all_blocks}
 use Rattle.rule_counts.proofs.EachBlock.{both_found, all_from, whole_is}
-use borrow.Author.Rules.{rules}
 use Rattle.rule_counts.proofs.counts_refusal.Goals as goal
 
 pub returns : goal.returns

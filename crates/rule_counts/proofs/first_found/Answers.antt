@@ -1,7 +1,6 @@
 use mathlib.Core.Path.{refl, sym, ap, ◌∙◌}
 use Rattle.paper.specs.Answers.{refusal_found}
 use Rattle.paper.proofs.Findings.{found_first, found_later}
-use borrow.Author.Rules.{rules}
 use Rattle.rule_counts.proofs.first_found.Goals as goal
 
 pub returns-in-Nothing : goal.returns-in-Nothing

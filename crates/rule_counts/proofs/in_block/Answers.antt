@@ -2,7 +2,6 @@ use native.Mathlib.Omega.{arith}
 use mathlib.Core.Path.{refl, ◌∙◌}
 use Rattle.form_names.specs.Names.{is_sought}
 use Rattle.rule_counts.proofs.EachBlock.{both_found, block_is}
-use borrow.Author.Rules.{rules}
 use Rattle.rule_counts.proofs.in_block.Goals as goal
 
 pub returns-then-to-from : goal.returns-then-to-from

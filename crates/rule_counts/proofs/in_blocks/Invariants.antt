@@ -2,8 +2,7 @@ use Prim.Native.Nat.{◌-◌}
 use mathlib.Core.List.{List}
 use Rattle.paper.specs.Form.{Element}
 use Rattle.rule_counts.specs.Counted.{BlocksFrom}
-use Rattle.rule_counts.proofs.EachBlock.{BlocksLeft, blocks_left, blocks_done, block_refused, block_passed}
-use borrow.Author.Rules.{rules}
+use Rattle.rule_counts.proofs.EachBlock.{BlocksLeft}
 use Rattle.rule_counts.proofs.in_blocks.Given as goal
 
 abbrev pub invariant-loop-k : goal.invariant-loop-k

@@ -7,7 +7,6 @@ use Rattle.tree_routes.specs.Finds.{rows_in}
 use Rattle.rule_totals.proofs.Amounts.{route_found}
 use Rattle.rule_counts.specs.Counted.{header_refusal}
 use Rattle.rule_counts.proofs.EachBlock.{both_found}
-use borrow.Author.Rules.{rules}
 use Rattle.rule_counts.proofs.in_header.Goals as goal
 
 pub returns : goal.returns

@@ -1,14 +1,6 @@
-use Prim.Native.Nat.{◌≤◌, ◌-◌}
-use mathlib.Core.List.{List}
-use mathlib.Core.Path.{◌≡◌}
 use native.Mathlib.Omega.{arith}
-use lib.ListN.{length}
-use Rattle.paper.specs.Form.{Element}
 use Rattle.paper.specs.Payments.{text_of}
-use Rattle.tree.specs.Laid.{LaidAt}
-use Rattle.rule_limits.specs.Ordered.{BlocksAt}
-use Rattle.rule_ids.proofs.Repeats.{Unmatched, unmatched, matched, still_unmatched, never_matched}
-use borrow.Author.Rules.{rules}
+use Rattle.rule_ids.proofs.Repeats.{unmatched, matched, still_unmatched, never_matched}
 use Rattle.rule_ids.proofs.among_earlier.Goals as goal
 
 pub loop-j-init : goal.loop-j-init

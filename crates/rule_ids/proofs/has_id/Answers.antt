@@ -2,7 +2,6 @@ use mathlib.Core.Path.{refl}
 use Rattle.paper.specs.Payments.{text_of}
 use Rattle.form_names.specs.Names.{is_sought}
 use Rattle.rule_ids.proofs.Repeats.{id_absent, id_there}
-use borrow.Author.Rules.{rules}
 use Rattle.rule_ids.proofs.has_id.Goals as goal
 
 pub returns-in_default : goal.returns-in_default

@@ -9,7 +9,6 @@ use Rattle.form_names.specs.Names.{is_sought}
 use Rattle.rule_limits.proofs.First.{stands_at}
 use Rattle.rule_limits.proofs.Refusing.{leaf_absent, leaf_right, leaf_wrong}
 use Rattle.rule_ids.specs.Ids.{with_ids, id_refusal}
-use borrow.Author.Rules.{rules}
 use Rattle.rule_ids.proofs.id_at.Goals as goal
 
 pub returns-in_default : goal.returns-in_default

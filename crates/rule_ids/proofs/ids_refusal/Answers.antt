@@ -1,11 +1,4 @@
-use Prim.Native.Nat.{◌≤◌, ◌-◌}
-use mathlib.Core.Path.{◌≡◌}
-use lib.ListN.{length}
-use Rattle.paper.specs.Form.{Element}
-use Rattle.paper.specs.Payments.{blocks as all_blocks}
-use Rattle.rule_limits.specs.Ordered.{Ordered}
-use Rattle.rule_ids.proofs.Repeats.{BeforeId, before_ids, no_id_left, id-refused, id_passed}
-use borrow.Author.Rules.{rules}
+use Rattle.rule_ids.proofs.Repeats.{before_ids, no_id_left, id-refused, id_passed}
 use Rattle.rule_ids.proofs.ids_refusal.Goals as goal
 
 pub loop-k-init : goal.loop-k-init

@@ -4,8 +4,7 @@ use lib.ListN.{length}
 use Rattle.paper.specs.Form.{Element}
 use Rattle.paper.specs.Payments.{blocks as all_blocks}
 use Rattle.rule_limits.specs.Ordered.{Ordered}
-use Rattle.rule_ids.proofs.Repeats.{BeforeId, before_ids, no_id_left, id-refused, id_passed}
-use borrow.Author.Rules.{rules}
+use Rattle.rule_ids.proofs.Repeats.{BeforeId}
 use Rattle.rule_ids.proofs.ids_refusal.Given as goal
 
 abbrev pub invariant-loop-k : goal.invariant-loop-k

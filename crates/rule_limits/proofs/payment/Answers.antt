@@ -1,6 +1,5 @@
 use native.Mathlib.Omega.{arith}
 use Rattle.rule_limits.specs.Ordered.{payment_in}
-use borrow.Author.Rules.{rules}
 use Rattle.rule_limits.proofs.payment.Goals as goal
 
 pub returns-then-k-ge-MOST_PAYMENTS : goal.returns-then-k-ge-MOST_PAYMENTS

@@ -1,7 +1,6 @@
 use mathlib.Core.Path.{refl, ap}
 use native.Mathlib.Omega.{arith}
 use lib.ListN.{set, length-set}
-use borrow.Author.Rules.{rules}
 use Rattle.rule_limits.proofs.put_block.Goals as goal
 
 pub returns-then-k-ge-MOST_BLOCKS : goal.returns-then-k-ge-MOST_BLOCKS

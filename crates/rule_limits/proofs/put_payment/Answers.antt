@@ -1,7 +1,6 @@
 use mathlib.Core.Path.{refl}
 use lib.ListN.{length-set}
 use native.Mathlib.Omega.{arith}
-use borrow.Author.Rules.{rules}
 use Rattle.rule_limits.proofs.put_payment.Goals as goal
 
 pub returns-then-k-ge-MOST_PAYMENTS : goal.returns-then-k-ge-MOST_PAYMENTS

@@ -1,6 +1,5 @@
 use native.Mathlib.Omega.{arith}
 use Rattle.rule_limits.specs.Ordered.{says_within, says_excess}
-use borrow.Author.Rules.{rules}
 use Rattle.rule_limits.proofs.said.Goals as goal
 
 pub returns-then-element-eq0 : goal.returns-then-element-eq0

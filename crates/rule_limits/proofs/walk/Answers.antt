@@ -1,10 +1,7 @@
-use Prim.Native.Nat.{◌≤◌, ◌-◌}
-use mathlib.Core.Path.{◌≡◌, refl, ◌∙◌}
-use mathlib.Core.Logic.{⊎_elim}
+use mathlib.Core.Path.{refl, ◌∙◌}
 use native.Mathlib.Omega.{arith}
-use lib.ListN.{length}
 use borrow.Author.Rules.{rules}
-use Rattle.rule_limits.proofs.NestedWalk.{BeforeBlock, BeforePayment, Along, begins, enters, passes, leaves, Exit, left_at_end, left_at_block, left_at_payment, few_said, limits_said}
+use Rattle.rule_limits.proofs.NestedWalk.{begins, enters, passes, leaves, Exit, left_at_end, left_at_block, left_at_payment, few_said, limits_said}
 use Rattle.rule_limits.proofs.walk.Goals as goal
 use Rattle.rule_limits.proofs.walk.Goals.{else-blocks-2-test, then-blocks-2-test+then-blocks-eq-MOST_BLOCKS, then-blocks-2-test+else-blocks-eq-MOST_BLOCKS+then-loop-own-test+then-payments-eq-MOST_PAYMENTS}
 
@@ -27,8 +24,7 @@ loop-own-smaller c = omega (arith, c.next_in-own.ensures.0 c.loop-own-test.true)
 
 pub loop-own-preserved : goal.loop-own-preserved
 loop-own-preserved c =
-    let inner = c.loop-own.invariant in
-    (
+    let inner = c.loop-own.invariant in (
       search rules,
       search rules,
       c.put_payment.ensures.0 ∙ inner.2,
@@ -42,8 +38,7 @@ blocks-2-smaller c = omega (arith, c.next_in-block.ensures.0 c.blocks-2-test.tru
 
 pub blocks-2-preserved : goal.blocks-2-preserved
 blocks-2-preserved c =
-    let inner = c.loop-own.invariant in
-    (
+    let inner = c.loop-own.invariant in (
       search rules,
       search rules,
       search rules,
@@ -56,10 +51,11 @@ returns c =
     let inv = c.blocks-2.invariant in
     -- the three ways out of the walk meet
     let left : Exit c.args.tree.now c.args.order.now c.blocks-2-test.order c.args.initiation c.blocks-2.blocks c.blocks-2-test.payments c.blocks-2-test.element c.blocks-2-test.excess =
-        elim c.blocks-2-test.branch [
-          else-blocks-2-test w ↦ left_at_end inv.0 inv.1 w.blocks-2-test.false inv.3 inv.4 w.order-is w.payments-is (w.element-is ∙ inv.2)
-        | then-blocks-2-test+then-blocks-eq-MOST_BLOCKS w ↦
-            left_at_block inv.0 inv.1 w.blocks-2-test.true w.if-blocks-eq-MOST_BLOCKS.true inv.4 w.order-is w.payments-is w.element-is w.excess-is
-        | then-blocks-2-test+else-blocks-eq-MOST_BLOCKS+then-loop-own-test+then-payments-eq-MOST_PAYMENTS w ↦
-            left_at_payment inv.0 w.loop-own.invariant.0 w.loop-own-test.true w.if-payments-eq-MOST_PAYMENTS.true w.loop-own.invariant.3 w.order-is w.payments-is w.element-is w.excess-is ]
+    elim c.blocks-2-test.branch [
+      | else-blocks-2-test w ↦ left_at_end inv.0 inv.1 w.blocks-2-test.false inv.3 inv.4 w.order-is w.payments-is (w.element-is ∙ inv.2)
+      | then-blocks-2-test+then-blocks-eq-MOST_BLOCKS w ↦
+          left_at_block inv.0 inv.1 w.blocks-2-test.true w.if-blocks-eq-MOST_BLOCKS.true inv.4 w.order-is w.payments-is w.element-is w.excess-is
+      | then-blocks-2-test+else-blocks-eq-MOST_BLOCKS+then-loop-own-test+then-payments-eq-MOST_PAYMENTS w ↦
+          left_at_payment inv.0 w.loop-own.invariant.0 w.loop-own-test.true w.if-payments-eq-MOST_PAYMENTS.true w.loop-own.invariant.3 w.order-is w.payments-is w.element-is w.excess-is
+    ]
     in (few_said left c.said.ensures, limits_said left c.said.ensures)

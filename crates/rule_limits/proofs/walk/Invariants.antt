@@ -1,10 +1,7 @@
 use Prim.Native.Nat.{◌≤◌, ◌-◌}
-use mathlib.Core.Path.{◌≡◌, refl, ◌∙◌}
-use mathlib.Core.Logic.{⊎_elim}
-use native.Mathlib.Omega.{arith}
+use mathlib.Core.Path.{◌≡◌}
 use lib.ListN.{length}
-use borrow.Author.Rules.{rules}
-use Rattle.rule_limits.proofs.NestedWalk.{BeforeBlock, BeforePayment, Along, begins, enters, passes, leaves, Exit, left_at_end, left_at_block, left_at_payment, few_said, limits_said}
+use Rattle.rule_limits.proofs.NestedWalk.{BeforeBlock, BeforePayment, Along}
 use Rattle.rule_limits.proofs.walk.Given as goal
 
 abbrev pub invariant-loop-own : goal.invariant-loop-own

@@ -1,14 +1,5 @@
-use borrow.Author.Rules.{rules}
 use native.Mathlib.Omega.{arith}
-use Prim.Native.Nat.{◌+◌, ◌*◌, ◌-◌, ◌^◌, ◌≤◌}
-use mathlib.Core.Path.{◌≡◌}
-use mathlib.Core.List.{List}
-use lib.ListN.{length}
-use Rattle.paper.specs.Payments.{Payment}
-use Rattle.paper.specs.Accepted.{All}
-use Rattle.rule_limits.specs.Ordered.{PaymentsAt}
-use Rattle.tree_leaves.specs.Readable.{ReadPayment}
-use Rattle.rule_totals.proofs.Amounts.{Summing, summing, sum_goes, sum-ends}
+use Rattle.rule_totals.proofs.Amounts.{summing, sum_goes, sum-ends}
 use Rattle.rule_totals.proofs.sum_of.Goals as goal
 
 pub returns-then-to-gt-MOST_PAYMENTS : goal.returns-then-to-gt-MOST_PAYMENTS

@@ -1,5 +1,3 @@
-use borrow.Author.Rules.{rules}
-use native.Mathlib.Omega.{arith}
 use Prim.Native.Nat.{◌+◌, ◌*◌, ◌-◌, ◌^◌, ◌≤◌}
 use mathlib.Core.Path.{◌≡◌}
 use mathlib.Core.List.{List}
@@ -8,7 +6,7 @@ use Rattle.paper.specs.Payments.{Payment}
 use Rattle.paper.specs.Accepted.{All}
 use Rattle.rule_limits.specs.Ordered.{PaymentsAt}
 use Rattle.tree_leaves.specs.Readable.{ReadPayment}
-use Rattle.rule_totals.proofs.Amounts.{Summing, summing, sum_goes, sum-ends}
+use Rattle.rule_totals.proofs.Amounts.{Summing}
 use Rattle.rule_totals.proofs.sum_of.Given as goal
 
 -- so many amounts come to at most so many times 10^17

@@ -1,5 +1,4 @@
 use Rattle.rule_usage.proofs.Laws.{not_own, not_block, both}
-use borrow.Author.Rules.{rules}
 use Rattle.rule_usage.proofs.in_both.Goals as goal
 
 pub returns-in_default : goal.returns-in_default

@@ -1,7 +1,6 @@
 use mathlib.Core.Path.{refl}
 use Rattle.form_names.specs.Names.{is_sought}
 use Rattle.rule_usage.proofs.Laws.{own_there, block_there, neither}
-use borrow.Author.Rules.{rules}
 use Rattle.rule_usage.proofs.in_neither.Goals as goal
 
 pub returns-in-At : goal.returns-in-At

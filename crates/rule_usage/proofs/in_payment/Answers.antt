@@ -2,7 +2,6 @@ use mathlib.Core.Path.{refl}
 use Rattle.paper.specs.Refusals.{usage_of}
 use Rattle.paper.proofs.Findings.{found_first, found_later}
 use Rattle.form_names.specs.Names.{is_sought}
-use borrow.Author.Rules.{rules}
 use Rattle.rule_usage.proofs.in_payment.Goals as goal
 
 pub returns-in_default : goal.returns-in_default

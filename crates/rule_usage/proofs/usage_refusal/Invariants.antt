@@ -1,14 +1,12 @@
 use Prim.Native.Nat.{ℕ, ◌-◌, ◌≤◌}
-use native.Mathlib.Omega.{arith}
 use mathlib.Core.List.{List}
 use mathlib.Core.Path.{◌≡◌}
 use lib.ListN.{length}
-use borrow.Author.Rules.{rules}
 use Rattle.paper.specs.Form.{Element}
 use Rattle.paper.specs.Payments.{payments as all_payments}
 use Rattle.tree_routes.specs.Finds.{ChildrenOf}
 use Rattle.rule_limits.specs.Ordered.{Ordered}
-use Rattle.rule_usage.proofs.Walk.{Left, at_start, none_left, refused, passed}
+use Rattle.rule_usage.proofs.Walk.{Left}
 use Rattle.rule_usage.proofs.usage_refusal.Given as goal
 
 abbrev pub invariant-loop-k : goal.invariant-loop-k

@@ -1,4 +1,3 @@
-use borrow.Author.Rules.{rules}
 use native.Mathlib.Omega.{arith}
 use Rattle.tree_routes.specs.Finds.{found_nothing}
 use Rattle.tree_fields.proofs.Fields.{line_own, line_block, line_either, line_nowhere, rows_followed}

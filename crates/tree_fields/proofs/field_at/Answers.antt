@@ -1,4 +1,3 @@
-use borrow.Author.Rules.{rules}
 use native.Mathlib.Omega.{arith}
 use Rattle.tree_routes.specs.Finds.{found_nothing}
 use Rattle.tree_fields.proofs.Fields.{past_fields, table_of_rows, no_line, past_lines, led_to, led_elsewhere}

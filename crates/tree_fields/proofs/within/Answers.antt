@@ -1,4 +1,3 @@
-use borrow.Author.Rules.{rules}
 use Rattle.tree_fields.proofs.Fields.{route_leads}
 use Rattle.tree_fields.proofs.within.Goals as goal
 

@@ -1,6 +1,5 @@
 use Rattle.paper.specs.Payments.{text_of}
 use Rattle.tree_leaves.proofs.Readings.{count-read, count_not}
-use borrow.Author.Rules.{rules}
 use Rattle.tree_leaves.proofs.count_at.Goals as goal
 
 pub returns-in-Not : goal.returns-in-Not

@@ -1,4 +1,3 @@
-use borrow.Author.Rules.{rules}
 use Rattle.tree_leaves.proofs.Leaves.{currency_there, tag_past}
 use Rattle.tree_leaves.proofs.currency.Goals as goal
 

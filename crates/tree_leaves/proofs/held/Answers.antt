@@ -1,4 +1,3 @@
-use borrow.Author.Rules.{rules}
 use Rattle.tree_leaves.proofs.Leaves.{held_there}
 use Rattle.tree_leaves.proofs.held.Goals as goal
 

@@ -1,5 +1,4 @@
 use mathlib.Core.Path.{sym}
-use borrow.Author.Rules.{rules}
 use Rattle.tree_leaves.proofs.Parts.{part_past, part_back, part_end}
 use Rattle.tree_leaves.proofs.part.Goals as goal
 

@@ -1,4 +1,3 @@
-use borrow.Author.Rules.{rules}
 use Rattle.tree_leaves.proofs.Leaves.{text_there, text_nowhere, text_stuck}
 use Rattle.tree_leaves.proofs.text.Goals as goal
 

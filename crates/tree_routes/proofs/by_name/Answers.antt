@@ -1,11 +1,9 @@
 use borrow.Author.Rules.{rules}
 use native.Mathlib.Omega.{arith}
-use Prim.Native.Nat.{◌-◌, ◌<◌}
-use mathlib.Core.Logic.{⊎_elim}
 use mathlib.Core.Path.{refl}
 use lib.ListN.{get_or-replicate}
 use Rattle.tree.proofs.Laws.{few_enough, entry_at}
-use Rattle.tree_routes.proofs.FirstOfEachName.{Walk, walk_begins, walk_passes, walk_puts, walk_never, walk_stuck, walk_ends}
+use Rattle.tree_routes.proofs.FirstOfEachName.{walk_begins, walk_passes, walk_puts, walk_never, walk_stuck, walk_ends}
 use Rattle.tree_routes.proofs.by_name.Goals as goal
 use Rattle.tree_routes.proofs.by_name.Goals.{then-name-lt59+then-firsts-name-eq0, then-name-lt59+else-firsts-name-eq0, else-name-lt59}
 
@@ -23,13 +21,13 @@ loop-at-preserved c =
     let w = c.loop-at.invariant.1 in (
       search rules,
       elim c.if-name-lt59.branch [
-        then-name-lt59+then-firsts-name-eq0 v ↦
+        | then-name-lt59+then-firsts-name-eq0 v ↦
             walk_puts c.loop-at-test.true c.cell-name.ensures c.cell-next.ensures v.firsts-is (search rules) v.narrow.ensures v.if-firsts-name-eq0.true w
-      | then-name-lt59+else-firsts-name-eq0 v ↦
+        | then-name-lt59+else-firsts-name-eq0 v ↦
             rw v.firsts-is (walk_passes c.loop-at-test.true c.cell-name.ensures c.cell-next.ensures v.if-firsts-name-eq0.false w)
-      | else-name-lt59 v ↦ rw v.firsts-is (walk_never c.loop-at-test.true c.cell-name.ensures c.cell-next.ensures v.if-name-lt59.false w) ],
+        | else-name-lt59 v ↦ rw v.firsts-is (walk_never c.loop-at-test.true c.cell-name.ensures c.cell-next.ensures v.if-name-lt59.false w)
+      ],
     )
-
 
 pub returns : goal.returns
 returns c = walk_ends c.loop-at-test.false c.loop-at.invariant.1

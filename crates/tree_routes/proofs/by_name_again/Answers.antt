@@ -1,4 +1,3 @@
-use borrow.Author.Rules.{rules}
 use Rattle.tree_routes.proofs.FirstOfEachName.{children_again}
 use Rattle.tree_routes.proofs.by_name_again.Goals as goal
 

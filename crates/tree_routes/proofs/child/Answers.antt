@@ -1,4 +1,3 @@
-use borrow.Author.Rules.{rules}
 use native.Mathlib.Omega.{arith}
 use Rattle.tree_routes.proofs.Laws.{ends_at, finds_none, finds_one}
 use Rattle.tree_routes.proofs.child.Goals as goal

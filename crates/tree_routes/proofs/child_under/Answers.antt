@@ -1,4 +1,3 @@
-use borrow.Author.Rules.{rules}
 use Rattle.tree_routes.proofs.WhatIsFound.{under_nothing, under_at}
 use Rattle.tree_routes.proofs.child_under.Goals as goal
 

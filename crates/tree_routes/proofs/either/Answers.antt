@@ -1,4 +1,3 @@
-use borrow.Author.Rules.{rules}
 use Rattle.tree_routes.proofs.WhatIsFound.{own_first, else_other}
 use Rattle.tree_routes.proofs.either.Goals as goal
 

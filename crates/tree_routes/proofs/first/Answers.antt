@@ -1,4 +1,3 @@
-use borrow.Author.Rules.{rules}
 use Rattle.tree_routes.proofs.FirstOfEachName.{number_of_row, first_none, first_one}
 use Rattle.tree_routes.proofs.first.Goals as goal
 

@@ -1,4 +1,3 @@
-use borrow.Author.Rules.{rules}
 use Rattle.tree_routes.proofs.Laws.{ends_after, first_inside}
 use Rattle.tree_routes.proofs.first_in.Goals as goal
 

@@ -1,15 +1,4 @@
-use borrow.Author.Rules.{rules}
-use Prim.Native.Nat.{ℕ, ◌-◌}
-use mathlib.Core.List.{List}
-use mathlib.Core.Option.{Option}
-use mathlib.Core.Bool.{true}
-use mathlib.Core.Path.{◌≡◌}
-use lib.ListN.{length}
-use Rattle.paper.specs.Bytes.{every}
-use Rattle.paper.specs.Form.{Element}
-use Rattle.form_names.specs.Names.{is_sought}
-use Rattle.tree_routes.specs.Finds.{Finds, rows_in}
-use Rattle.tree_routes.proofs.Laws.{Halfway, sets_out, rows_stop, rows_end, arrived, one_row_on}
+use Rattle.tree_routes.proofs.Laws.{sets_out, rows_stop, rows_end, arrived, one_row_on}
 use Rattle.tree_routes.proofs.follow.Goals as goal
 
 pub loop-k-init : goal.loop-k-init

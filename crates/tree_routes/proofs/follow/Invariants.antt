@@ -1,4 +1,3 @@
-use borrow.Author.Rules.{rules}
 use Prim.Native.Nat.{ℕ, ◌-◌}
 use mathlib.Core.List.{List}
 use mathlib.Core.Option.{Option}
@@ -9,7 +8,7 @@ use Rattle.paper.specs.Bytes.{every}
 use Rattle.paper.specs.Form.{Element}
 use Rattle.form_names.specs.Names.{is_sought}
 use Rattle.tree_routes.specs.Finds.{Finds, rows_in}
-use Rattle.tree_routes.proofs.Laws.{Halfway, sets_out, rows_stop, rows_end, arrived, one_row_on}
+use Rattle.tree_routes.proofs.Laws.{Halfway}
 use Rattle.tree_routes.proofs.follow.Given as goal
 
 abbrev pub invariant-loop-k : goal.invariant-loop-k

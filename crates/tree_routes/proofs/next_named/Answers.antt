@@ -1,14 +1,6 @@
 use borrow.Author.Rules.{rules}
-use Prim.Native.Nat.{ℕ, ◌≤◌, ◌-◌}
-use mathlib.Core.List.{List}
-use mathlib.Core.Bool.{true}
-use mathlib.Core.Path.{◌≡◌, refl}
-use Rattle.paper.specs.Form.{Elements}
-use Rattle.paper.specs.Rows.{name as name-of-row}
-use Rattle.paper.specs.Payments.{listed}
-use Rattle.form_names.specs.Names.{name_number, is_sought}
-use Rattle.tree.specs.Laid.{LaidAll}
-use Rattle.tree_routes.proofs.Laws.{Left, passed, stands, stuck, none_left}
+use mathlib.Core.Path.{refl}
+use Rattle.tree_routes.proofs.Laws.{passed, stands, stuck, none_left}
 use Rattle.tree_routes.proofs.next_named.Goals as goal
 
 pub loop-at-init : goal.loop-at-init

@@ -1,14 +1,13 @@
-use borrow.Author.Rules.{rules}
 use Prim.Native.Nat.{ℕ, ◌≤◌, ◌-◌}
 use mathlib.Core.List.{List}
 use mathlib.Core.Bool.{true}
-use mathlib.Core.Path.{◌≡◌, refl}
+use mathlib.Core.Path.{◌≡◌}
 use Rattle.paper.specs.Form.{Elements}
 use Rattle.paper.specs.Rows.{name as name-of-row}
 use Rattle.paper.specs.Payments.{listed}
 use Rattle.form_names.specs.Names.{name_number, is_sought}
 use Rattle.tree.specs.Laid.{LaidAll}
-use Rattle.tree_routes.proofs.Laws.{Left, passed, stands, stuck, none_left}
+use Rattle.tree_routes.proofs.Laws.{Left}
 use Rattle.tree_routes.proofs.next_named.Given as goal
 
 abbrev pub invariant-loop-at : goal.invariant-loop-at

@@ -1,6 +1,5 @@
 use Rattle.verdict_answers.specs.Numbers.{as_answer}
 use Rattle.verdict_answers.proofs.Laws.{message_answer, accepted_answer}
-use borrow.Author.Rules.{rules}
 use Rattle.verdict_answers.proofs.of_message.Goals as goal
 
 pub returns-in-Accepted : goal.returns-in-Accepted

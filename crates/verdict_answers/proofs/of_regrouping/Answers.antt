@@ -1,7 +1,6 @@
 use mathlib.Core.Path.{refl}
 use Rattle.paper.specs.Answers.{regrouping_says}
 use Rattle.verdict_answers.proofs.Laws.{as_answered}
-use borrow.Author.Rules.{rules}
 use Rattle.verdict_answers.proofs.of_regrouping.Goals as goal
 
 pub returns-in-Accepted : goal.returns-in-Accepted

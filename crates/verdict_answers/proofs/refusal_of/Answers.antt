@@ -1,7 +1,6 @@
 use mathlib.Core.Path.{refl}
 use Rattle.paper.specs.Answers.{refusal_of, numbered}
 use Rattle.verdict_answers.proofs.Laws.{numbers}
-use borrow.Author.Rules.{rules}
 use Rattle.verdict_answers.proofs.refusal_of.Goals as goal
 
 pub returns-in-TableTooShort : goal.returns-in-TableTooShort

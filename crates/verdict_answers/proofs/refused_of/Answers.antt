@@ -1,6 +1,5 @@
 use Rattle.verdict_answers.specs.Numbers.{as_regrouping_answer}
 use Rattle.verdict_answers.proofs.Laws.{whose_answer}
-use borrow.Author.Rules.{rules}
 use Rattle.verdict_answers.proofs.refused_of.Goals as goal
 
 pub returns : goal.returns

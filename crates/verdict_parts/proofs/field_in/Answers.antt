@@ -1,4 +1,3 @@
-use borrow.Author.Rules.{rules}
 use native.Mathlib.Omega.{arith}
 use Rattle.verdict_parts.proofs.Spans.{found_part}
 use Rattle.verdict_parts.proofs.field_in.Goals as goal

@@ -2,7 +2,6 @@ use Rattle.verdict_reader.proofs.Verdicts.{too_short, refused_promise, accepted_
 use lib.ListN.{length-replicate}
 use Prim.Native.Nat.{ℕ}
 use native.Mathlib.Omega.{arith}
-use borrow.Author.Rules.{rules}
 use Rattle.verdict_reader.proofs.verdict.Goals as goal
 
 pub returns-then-table-lt-LEAST_TABLE : goal.returns-then-table-lt-LEAST_TABLE

@@ -1,6 +1,5 @@
 use Rattle.verdict_stages.proofs.InTurn.{first_refuses, later_passes, no_values_refusal}
 use Rattle.paper.specs.Answers.{profile_named}
-use borrow.Author.Rules.{rules}
 use Rattle.verdict_stages.proofs.judged.Goals as goal
 
 pub returns-in-Refused : goal.returns-in-Refused

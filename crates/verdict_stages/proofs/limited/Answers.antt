@@ -1,6 +1,5 @@
 use Rattle.verdict_stages.proofs.InTurn.{limits_refused, limits_passed, few_payments, few_blocks}
 use Rattle.paper.specs.Answers.{profile_named}
-use borrow.Author.Rules.{rules}
 use Rattle.verdict_stages.proofs.limited.Goals as goal
 
 pub returns-in-Excess : goal.returns-in-Excess

@@ -1,7 +1,6 @@
 use Prim.Native.Nat.{ℕ, ◌<◌}
 use mathlib.Core.Path.{subst}
 use borrow.Author.Tests.{ltb-true}
-use borrow.Author.Rules.{rules}
 use Rattle.verdict_stages.proofs.of_rows.Goals as goal
 
 pub returns : goal.returns

@@ -1,5 +1,4 @@
 use Rattle.verdict_stages.proofs.InTurn.{too_long, form_refuses, form_passes}
-use borrow.Author.Rules.{rules}
 use Rattle.verdict_stages.proofs.outcome.Goals as goal
 
 pub returns-then-s-gt-LARGEST_MESSAGE : goal.returns-then-s-gt-LARGEST_MESSAGE

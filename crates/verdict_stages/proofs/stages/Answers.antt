@@ -1,7 +1,6 @@
 use Rattle.verdict_stages.proofs.InTurn.{rows_refused, rows_refused_first, no_rows_refusal, no_values_refusal, found_as}
 use Rattle.paper_acceptance.proofs.OneWalk.{rows_too}
 use Rattle.rows.specs.Walk.{refusal_by}
-use borrow.Author.Rules.{rules}
 use Rattle.verdict_stages.proofs.stages.Goals as goal
 
 pub returns-then-of_rows : goal.returns-then-of_rows

@@ -4,7 +4,6 @@ use Rattle.paper.specs.Payments.{payments as all_payments, total}
 use Rattle.verdict_stages.proofs.Readable.{readable}
 use Rattle.verdict_stages.proofs.InTurn.{counts_refused, all_passed}
 use Rattle.paper_acceptance.proofs.Proper.{named_proper}
-use borrow.Author.Rules.{rules}
 use Rattle.verdict_stages.proofs.sums.Goals as goal
 
 pub returns-in-Refused : goal.returns-in-Refused

@@ -1,4 +1,3 @@
-use borrow.Author.Rules.{rules}
 use Rattle.verdict_table.proofs.field_span.Goals as goal
 
 pub returns : goal.returns

@@ -1,16 +1,6 @@
-use Prim.Native.Nat.{◌-◌, ◌≤◌}
 use native.Mathlib.Omega.{arith}
-use borrow.Author.Rules.{rules}
-use mathlib.Core.Path.{◌≡◌, refl, ◌∙◌}
-use lib.ListN.{length}
-use Rattle.paper.specs.Sizes.{least_table}
-use Rattle.paper.specs.Form.{Element}
-use Rattle.paper.specs.Payments.{payments as all_payments}
-use Rattle.paper.specs.Accepted.{All}
-use Rattle.tree_routes.specs.Finds.{ChildrenOf}
-use Rattle.rule_limits.specs.Ordered.{Ordered}
-use Rattle.verdict_table.specs.Rows.{Fitting}
-use Rattle.verdict_table.proofs.Filling.{Filled, start, one_filled, all_filled}
+use mathlib.Core.Path.{refl, ◌∙◌}
+use Rattle.verdict_table.proofs.Filling.{start, one_filled, all_filled}
 use Rattle.verdict_table.proofs.fill.Goals as goal
 
 pub loop-k-init : goal.loop-k-init

@@ -1,7 +1,5 @@
 use Prim.Native.Nat.{◌-◌, ◌≤◌}
-use native.Mathlib.Omega.{arith}
-use borrow.Author.Rules.{rules}
-use mathlib.Core.Path.{◌≡◌, refl, ◌∙◌}
+use mathlib.Core.Path.{◌≡◌}
 use lib.ListN.{length}
 use Rattle.paper.specs.Sizes.{least_table}
 use Rattle.paper.specs.Form.{Element}
@@ -10,7 +8,7 @@ use Rattle.paper.specs.Accepted.{All}
 use Rattle.tree_routes.specs.Finds.{ChildrenOf}
 use Rattle.rule_limits.specs.Ordered.{Ordered}
 use Rattle.verdict_table.specs.Rows.{Fitting}
-use Rattle.verdict_table.proofs.Filling.{Filled, start, one_filled, all_filled}
+use Rattle.verdict_table.proofs.Filling.{Filled}
 use Rattle.verdict_table.proofs.fill.Given as goal
 
 abbrev pub invariant-loop-k : goal.invariant-loop-k

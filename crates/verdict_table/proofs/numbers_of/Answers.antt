@@ -1,4 +1,3 @@
-use borrow.Author.Rules.{rules}
 use Rattle.tree.proofs.Laws.{at_cell, entry_at}
 use Rattle.verdict_table.proofs.Laws.{the_row, own_inside}
 use Rattle.verdict_table.proofs.numbers_of.Goals as goal

@@ -1,10 +1,6 @@
 use borrow.Author.Rules.{rules}
-use Prim.Native.Nat.{◌+◌, ◌-◌, ◌≤◌}
 use native.Mathlib.Omega.{arith}
-use mathlib.Core.Path.{◌≡◌}
-use lib.ListN.{length}
-use lib.Seq.{paste, paste-zero}
-use Rattle.paper.specs.Sizes.{numbers_per_payment}
+use lib.Seq.{paste-zero}
 use Rattle.verdict_table.proofs.Laws.{pasted, pasted_length, pasted_all}
 use Rattle.verdict_table.proofs.put.Goals as goal
 

@@ -1,11 +1,8 @@
-use borrow.Author.Rules.{rules}
 use Prim.Native.Nat.{◌+◌, ◌-◌, ◌≤◌}
-use native.Mathlib.Omega.{arith}
 use mathlib.Core.Path.{◌≡◌}
 use lib.ListN.{length}
-use lib.Seq.{paste, paste-zero}
+use lib.Seq.{paste}
 use Rattle.paper.specs.Sizes.{numbers_per_payment}
-use Rattle.verdict_table.proofs.Laws.{pasted, pasted_length, pasted_all}
 use Rattle.verdict_table.proofs.put.Given as goal
 
 abbrev pub invariant-loop-k : goal.invariant-loop-k

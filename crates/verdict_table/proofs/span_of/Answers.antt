@@ -1,4 +1,3 @@
-use borrow.Author.Rules.{rules}
 use Rattle.verdict_table.proofs.Laws.{nothing, never_ends_first, held}
 use Rattle.verdict_table.proofs.span_of.Goals as goal
 

@@ -1,4 +1,3 @@
-use borrow.Author.Rules.{rules}
 use mathlib.Core.Path.{refl}
 use Rattle.paper.specs.Fields.{plain, or_means, amount_field, remittance, fields, field_element}
 use Rattle.form_names.specs.Names.{is_sought}
