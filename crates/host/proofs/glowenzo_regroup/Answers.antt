@@ -1,6 +1,5 @@
 use mathlib.Core.Path.{◌∙◌}
 use Rattle.host.proofs.Laws.{regrouped_in_profile}
-use borrow.Author.Rules.{rules}
 use Rattle.host.proofs.glowenzo_regroup.Goals as goal
 
 pub returns : goal.returns

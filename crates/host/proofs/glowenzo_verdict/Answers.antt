@@ -3,7 +3,6 @@ use native.Mathlib.Omega.{arith}
 use lib.ListN.{length-replicate}
 use Rattle.paper.specs.Sizes.{least_table}
 use Rattle.host.proofs.Laws.{too_short, room, refused-bytes, accepted-bytes, in_profile}
-use borrow.Author.Rules.{rules}
 use Rattle.host.proofs.glowenzo_verdict.Goals as goal
 
 pub returns-then-table-lt-LEAST_BYTES : goal.returns-then-table-lt-LEAST_BYTES

@@ -2,7 +2,6 @@ use Prim.Native.Nat.{◌/◌, ◌%◌}
 use native.Mathlib.Omega.{arith}
 use Rattle.paper.specs.Host.{four_bytes}
 use Rattle.host.proofs.Laws.{room_1, room_2, room_3, four_put}
-use borrow.Author.Rules.{rules}
 use Rattle.host.proofs.put.Goals as goal
 
 pub returns-then-table-lt4 : goal.returns-then-table-lt4

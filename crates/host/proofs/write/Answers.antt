@@ -1,9 +1,7 @@
-use Prim.Native.Nat.{◌-◌, ◌*◌, ◌≤◌}
 use native.Mathlib.Omega.{arith}
 use borrow.Author.Rules.{rules}
-use mathlib.Core.Path.{◌≡◌, refl}
-use lib.ListN.{length}
-use Rattle.host.proofs.Laws.{Written, none_written, one_written, all_written}
+use mathlib.Core.Path.{refl}
+use Rattle.host.proofs.Laws.{none_written, one_written, all_written}
 use Rattle.host.proofs.write.Goals as goal
 
 pub loop-i-init : goal.loop-i-init

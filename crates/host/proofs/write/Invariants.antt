@@ -1,9 +1,7 @@
 use Prim.Native.Nat.{◌-◌, ◌*◌, ◌≤◌}
-use native.Mathlib.Omega.{arith}
-use borrow.Author.Rules.{rules}
-use mathlib.Core.Path.{◌≡◌, refl}
+use mathlib.Core.Path.{◌≡◌}
 use lib.ListN.{length}
-use Rattle.host.proofs.Laws.{Written, none_written, one_written, all_written}
+use Rattle.host.proofs.Laws.{Written}
 use Rattle.host.proofs.write.Given as goal
 
 abbrev pub invariant-loop-i : goal.invariant-loop-i

@@ -1,5 +1,4 @@
 use Rattle.move_regrouping.proofs.Laws.{numbers_differ, wrong_count, not_a_list, the_pairs, same_order}
-use borrow.Author.Rules.{rules}
 use Rattle.move_regrouping.proofs.listed.Goals as goal
 
 pub returns-then-many1-many2 : goal.returns-then-many1-many2

@@ -1,7 +1,6 @@
 use mathlib.Core.Path.{sym, ap}
 use Rattle.paper.specs.Answers.{regrouping_says}
 use Rattle.move_pairs.specs.Pairs.{pairs_say}
-use borrow.Author.Rules.{rules}
 use Rattle.move_regrouping.proofs.paired_as.Goals as goal
 
 pub returns-in-Accepted : goal.returns-in-Accepted

@@ -2,7 +2,6 @@ use Rattle.move_regrouping.proofs.Laws.{first_refused, first_accepted}
 use lib.ListN.{length-replicate}
 use Prim.Native.Nat.{ℕ}
 use native.Mathlib.Omega.{arith}
-use borrow.Author.Rules.{rules}
 use Rattle.move_regrouping.proofs.regroup.Goals as goal
 
 pub returns-in-Refused : goal.returns-in-Refused
