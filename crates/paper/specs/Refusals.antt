@@ -250,9 +250,9 @@ unless_refused (some r) otherwise = refused_as r
 unless_refused none otherwise = otherwise
 
 -- 2: the form, at the offset where the reading stops. Otherwise the stages over the tree decide, in the verdict `tree_refusal` of a profile.
-unfoldable pub of_reading : (of_Tree : Element → Option Refusal) → Reading → Outcome
-of_reading of_Tree (stops_at n) = refused_as (record { number = 2; element = 0; offset = n })
-of_reading of_Tree (root_is root) = unless_refused (of_Tree root) (accepted_with root)
+unfoldable pub of_reading : (of_tree : Element → Option Refusal) → Reading → Outcome
+of_reading of_tree (stops_at n) = refused_as (record { number = 2; element = 0; offset = n })
+of_reading of_tree (root_is root) = unless_refused (of_tree root) (accepted_with root)
 
 -- where no table is lent, as in a regrouping; and where a table of so many numbers is
 unfoldable pub outcome_alone : Profile → List ℕ → Outcome

@@ -22,7 +22,7 @@ pub data Case : Type 0 where
   -- the table after a message, laid over an old one
   table : (message old after : List ℕ) → Case
   -- the parts of a payment's fields 0 to 18, of which 1 to 17 are known
-  parts : (message : List ℕ) (payment : ℕ) (of_Fields : List Part) → Case
+  parts : (message : List ℕ) (payment : ℕ) (of_fields : List Part) → Case
   -- the answer to a regrouping, and those to several of one first message; start and length of the part that is handed back after it
   moved : (first second file : List ℕ) → RegroupingAnswer → Case
   each_moved : (first file : List ℕ) → List Second → Case
@@ -61,7 +61,7 @@ unfoldable pub Holds : Profile → Case → Type 0
 Holds profile (message s a) = verdict profile least_table s ≡ a
 Holds profile (lent n s a) = verdict profile n s ≡ a
 Holds profile (table s old after) = table_after (outcome profile least_table s) old ≡ after
-Holds profile (parts s payment of_Fields) = all_parts (outcome_alone profile s) payment ≡ of_Fields
+Holds profile (parts s payment of_fields) = all_parts (outcome_alone profile s) payment ≡ of_fields
 Holds profile (moved first second file a) = regrouping profile first second file ≡ a
 Holds profile (each_moved first file seconds) = answers profile (outcome_alone profile first) file seconds ≡ expected seconds
 Holds profile (differing first second file start size) = differing_part profile first second file ≡ part start size
