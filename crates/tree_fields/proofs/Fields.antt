@@ -20,11 +20,8 @@ use Rattle.tree_routes.specs.declared.Found.TheVariants.{At, Nothing}
 use Rattle.tree_routes.specs.Finds.{Finds, found_nothing, rows_in, onward}
 use Rattle.tree_routes.proofs.Laws.{follow_step}
 use Rattle.tree_routes.proofs.WhatIsFound.{own_first, else_other}
+use Rattle.tree_fields.proofs.LaterRows.{later_rows}
 use Rattle.tree_fields.specs.Routes.{route_table, RoutesAre, line_of, where_followed, other_line, route_of, at_line, at_lines, of_rows}
-
--- the rows of a line's route behind the first
-abbrev pub later_rows : List ℕ → List ℕ
-later_rows line = rows_in (get_or line 2 0 ∷ get_or line 3 0 ∷ get_or line 4 0 ∷ [])
 
 -- A line's route followed: its first row, then the others.
 pub route_leads : (line : List ℕ) (t : Element) {s tree : List ℕ} {k : ℕ} {first found : Found} → k ≡ get_or line 1 0
