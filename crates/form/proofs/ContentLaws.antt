@@ -17,28 +17,16 @@ use Rattle.paper.specs.Rows.{head_of}
 use Rattle.paper.specs.Computed.Reading.{Open, closed, State, angle, blank, in_text, after_child, want, ending, step, ended}
 use Rattle.form_scans.specs.Scans.{from, Scanned, to, Along, White, Values, Text}
 use Rattle.tree.specs.Laid.{between}
-use Rattle.form.specs.Reads.{Kept, Roomy, Numbered, AllNumbered, none_numbered, more_numbered, Child, ChildAt, Known, HeldTo, HeldAt, held_scan, held_next, close_of, read_scan, read_next, Holds, Whole, ContentRead, Placed, ElementRead}
-use Rattle.form_scans.specs.declared.Scan.TheVariants.{To}
+use Rattle.form.specs.Reads.{Kept, Roomy, Numbered, AllNumbered, none_numbered, more_numbered, Child, ChildAt, Known, known_number, TextKnown, HeldTo, HeldAt, held_scan, held_next, close_of, read_scan, read_next, Holds, Whole, ContentRead, Placed, ElementRead}
+use Rattle.std.specs.Prelude.{Result, Ok, Err}
+use Rattle.form_scans.specs.declared.Stop.{Stop}
 use Rattle.form.specs.declared.Read.{Read}
-use Rattle.form.specs.declared.Read.TheVariants as read
 use Rattle.form.specs.declared.Held.{Held}
-use Rattle.form.specs.declared.Held.TheVariants as held
+use Rattle.form.specs.declared.Kind.{Kind}
+use Rattle.form.specs.declared.Kind.TheVariants as text
 use Rattle.paper_grammar.proofs.Complete.{among_stays}
-use Rattle.form_scans.proofs.Laws.{from_next, from_stuck, from_short, want_step, want_stuck, want_append, text_step, no_to, reached, halts, first, via}
+use Rattle.form_scans.proofs.Laws.{from_next, from_stuck, from_short, want_step, want_stuck, want_append, text_step, reached, halts, first, via}
 use Rattle.form.proofs.Numbering.{kept_same, kept_on, Agree, agree_same, agree_on, kept_agree, narrow, numbered_stays}
-
-no_held : {n c m k : ℕ} → held.StopsAt n ≡ held.To c m k → ⊥
-unfolding held_scan
-no_held e = no_to (ap held_scan e)
-
-unfoldable known_of : Held → ℕ
-known_of (held.To close next known) = known
-known_of (held.StopsAt n) = 0
-
--- the parts of an answer
-held_parts : {c n k c' n' k' : ℕ} → held.To c n k ≡ held.To c' n' k' → (c ≡ c') × (n ≡ n') × (k ≡ k')
-unfolding close_of held_next known_of
-held_parts e = (ap close_of e, ap held_next e, ap known_of e)
 
 -- two states from which the machine runs alike
 module _ (s : List ℕ) (q r : State) (p : ℕ) where
@@ -178,8 +166,8 @@ none_passed s tree left start i h =
     record { kept = kept_same; rises = omega arith; within = h; counted = omega arith; enough = omega arith; passes = inl (refl, refl) }
 
 -- the end: text, or the end tag behind children
-module _ {s before tree : List ℕ} {left start i at next p close known : ℕ} {c : Bool} (b : Passed s before tree left start i at next) (w : White s at p)
-    (x : ChildAt s p c) (n : c ≡ false) (h : HeldTo s start at p close known) where
+module _ {s before tree : List ℕ} {left start i at next p close : ℕ} (known : Kind) {c : Bool} (b : Passed s before tree left start i at next) (w : White s at p)
+    (x : ChildAt s p c) (n : c ≡ false) (h : HeldTo s start at p close (known_number known)) where
   in_children : at ≡ start → ((at ≡ start) × (next ≡ i)) ⊎ ((i < next) × ((o : Open) → o.depth + left ≡ 12 → SoFar s tree o start i at next)) → next ≡ i
   in_children z (inl (a, e)) = e
   in_children z (inr (l, _)) = let e = b.enough in absurd (omega (arith, z, l, e))
@@ -187,7 +175,7 @@ module _ {s before tree : List ℕ} {left start i at next p close known : ℕ} {
   no_more : (at ≡ start → ⊥) → (i < next) × ((o : Open) → o.depth + left ≡ 12 → SoFar s tree o start i at next)
   no_more m = ⊎_elim (λ y. absurd (m y.0)) (λ y. y) b.passes
 
-  text_content : at ≡ start → ContentRead s before tree start i left (held.To close next known)
+  text_content : at ≡ start → ContentRead s before tree start i left (Ok (record { close = close; next = next; text = known }))
   unfolding held_scan held_next close_of Holds head_of
   text_content z =
       let (along, over) = h.text z in
@@ -202,17 +190,16 @@ module _ {s before tree : List ℕ} {left start i at next p close known : ℕ} {
             let (w₂, g) = along.texts o w₁ in
             to {p = close} (omega (arith, l, l₂, z)) l₃ (record { element = holding_text (closed o close) w₂; its_head = refl; holds = λ _. y })
             (λ k. f k ∙ (blank_is_text s o k p w₁ w.other (x.not_there n) ∙ (g k ∙ text_ends s o k close w₂ over)));
-        goes = λ c' n' k' e.
-            let (e₁, e₂, e₃) = held_parts e in (
-              omega (arith, y, e₂),
-              omega (arith, l, l₂, z, e₁),
-              omega (arith, l₃, e₁),
-              omega (arith, y, e₂, l, l₂, z, e₁),
-              subst (λ q. Known s start q k') e₁ (subst (λ q. Known s start close q) e₃ (h.is_known (λ k a u. w.through.all_white k (omega (arith, a, z)) u) (omega (arith, l, z)) z)),
-            );
+        goes = (
+          omega (arith, y),
+          omega (arith, l, l₂, z),
+          l₃,
+          omega (arith, y, l, l₂, z),
+          h.is_known (λ k a u. w.through.all_white k (omega (arith, a, z)) u) (omega (arith, l, z)) z,
+        );
       }
 
-  children_content : (at ≡ start → ⊥) → ContentRead s before tree start i left (held.To close next known)
+  children_content : (at ≡ start → ⊥) → ContentRead s before tree start i left (Ok (record { close = close; next = next; text = known }))
   unfolding held_scan held_next close_of Holds head_of
   children_content m =
       let (j, f) = no_more m in
@@ -225,7 +212,7 @@ module _ {s before tree : List ℕ} {left start i at next p close known : ℕ} {
         kept = b.kept;
         reads = λ o d.
             let g = f o d in
-            subst (λ z. Scanned s start (blank o []) (λ k (a : Whole s tree o z i next). want (end_tag o.name) (k a.element)) (To z)) (sym q)
+            subst (λ z. Scanned s start (blank o []) (λ k (a : Whole s tree o z i next). want (end_tag o.name) (k a.element)) (Ok z)) (sym q)
             (to {p = p} (omega (arith, l, l₂)) l₃
             (record {
               element = holding_elements (closed o p) (g.before_these []ᵉ);
@@ -234,39 +221,32 @@ module _ {s before tree : List ℕ} {left start i at next p close known : ℕ} {
             })
             (λ k. g.runs k ∙ (w.through.stays (after_child o g.before_these k) (among_stays o g.before_these k)
             ∙ among-ends s o k p g.before_these w.other (x.not_there n))));
-        goes = λ c' n' k' e.
-            let (e₁, e₂, e₃) = held_parts e in (
-              omega (arith, j, e₂),
-              omega (arith, l, l₂, q, e₁),
-              omega (arith, l₃, q, e₁),
-              omega (arith, en, l₂, q, e₁, e₂),
-              nothing_known (h.nothing_known m ∙ refl) e₃,
-            );
+        goes = (omega (arith, j), omega (arith, l, l₂, q), omega (arith, l₃, q), omega (arith, en, l₂, q), nothing_known (h.nothing_known m));
       }
     where
-      nothing_known : known ≡ 0 → {c' k' : ℕ} → known ≡ k' → Known s start c' k'
-      nothing_known z e = record {
-        small = omega (arith, z, e);
-        white_known = λ y. absurd (omega (arith, z, e, y));
-        values_known = λ y. absurd (omega (arith, z, e, y));
+      nothing_known : known_number known ≡ 0 → Known s start close (known_number known)
+      nothing_known z = record {
+        small = omega (arith, z);
+        white_known = λ y. absurd (omega (arith, z, y));
+        values_known = λ y. absurd (omega (arith, z, y));
       }
 
-  pub content_read : ContentRead s before tree start i left (held.To close next known)
+  pub content_read : ContentRead s before tree start i left (Ok (record { close = close; next = next; text = known }))
   content_read = go (eqb at start) refl
     where
-      go : (z : Bool) → eqb at start ≡ z → ContentRead s before tree start i left (held.To close next known)
+      go : (z : Bool) → eqb at start ≡ z → ContentRead s before tree start i left (Ok (record { close = close; next = next; text = known }))
       go true z = text_content (eqb-true at start z)
       go false z = children_content (eqb-false at start z)
 
 -- the same, as the code answers it
 pub content_ends : {s before tree : List ℕ} {left start i at next p : ℕ} {c : Bool} {r : Held} → Passed s before tree left start i at next → White s at p
-    → ChildAt s p c → c ≡ false → HeldAt s start at p next r → ContentRead s before tree start i left r
+    → ChildAt s p c → c ≡ false → HeldAt s start at p next r → ContentRead s before tree start i left (Ok r)
 unfolding HeldAt
-content_ends {r = held.To close n known} b w x z (e, h) = rw e (content_read b w x z h)
-content_ends {r = held.StopsAt n} b w x z h = absurd h
+content_ends {s} {before} {tree} {left} {start} {i} {r = r} b w x z (e, h) =
+    subst (λ n. ContentRead s before tree start i left (Ok (record { close = r.close; next = n; text = r.text }))) (sym e) (content_read r.text b w x z h)
 
 -- one more child
-module _ {s before tree tree' : List ℕ} {left start i at next p : ℕ} {c : Bool} {r : Read} (b : Passed s before tree left start i at next) (w : White s at p)
+module _ {s before tree tree' : List ℕ} {left start i at next p : ℕ} {c : Bool} {r : Result Read Stop} (b : Passed s before tree left start i at next) (w : White s at p)
     (h : ChildAt s p c) (e : c ≡ true) (x : ElementRead s tree tree' p next left r) where
   -- the machine from the beginning up to a child, which is one more behind those passed
   record Behind (o : Open) : Type 0 where
@@ -306,18 +286,21 @@ module _ {s before tree tree' : List ℕ} {left start i at next p : ℕ} {c : Bo
                 (x.reads (suc o.depth) (omega (arith, d))));
           }
 
-  pub content_stops : {n : ℕ} → r ≡ read.StopsAt n → ContentRead s before tree' start i left (held.StopsAt n)
+  pub content_stops : {n : Stop} → r ≡ Err n → ContentRead s before tree' start i left (Err n)
   unfolding held_scan read_scan
   content_stops {n} z = record {
     kept = kept_on b.kept x.kept b.counted;
     reads = λ o d. halts (begun o d).reads (ap read_scan z);
-    goes = λ c' n' k' f. absurd (no_held f);
+    goes = tt;
   }
 
-  pub one_passed : left ≤ 12 → {q n : ℕ} → r ≡ read.To q n → Passed s before tree' left start i q n
+  pub one_goes : {y : Read} → r ≡ Ok y → (next < y.next) × (7 * y.next + p ≤ 7 * next + y.at)
+  one_goes z = rw z at x.goes
+
+  pub one_passed : left ≤ 12 → {y : Read} → r ≡ Ok y → Passed s before tree' left start i y.at y.next
   unfolding read_scan read_next
-  one_passed l {q} {n} z =
-      let (j, en) = x.goes q n z in
+  one_passed l {y} z =
+      let (j, en) = one_goes z in
       let g = reached (x.reads (13 - left) (omega (arith, l))) (ap read_scan z) in
       let l₁ = g.rises in
       let l₃ = b.rises in
@@ -333,19 +316,19 @@ module _ {s before tree tree' : List ℕ} {left start i at next p : ℕ} {c : Bo
         passes = inr (omega (arith, j, cn), λ o d. behind_it o d);
       }
     where
-      behind_it : (o : Open) → o.depth + left ≡ 12 → SoFar s tree' o start i q n
+      behind_it : (o : Open) → o.depth + left ≡ 12 → SoFar s tree' o start i y.at y.next
       behind_it o d =
           let f = begun o d in
-          let y = reached f.reads (ap read_scan z) in
+          let g = reached f.reads (ap read_scan z) in
           let cn = b.counted in
-          let (j, _) = x.goes q n z in
+          let (j, _) = one_goes z in
           record {
-            before_these = λ ts. f.before_these (y.got.element ∷ᵉ ts);
-            runs = y.runs;
+            before_these = λ ts. f.before_these (g.got.element ∷ᵉ ts);
+            runs = g.runs;
             numbered = λ roomy after a ts m u.
                 let rs : Roomy s tree = record { short = roomy.short; long = let k = x.kept.length_kept in let k' = roomy.long in omega (arith, k, k') } in
-                let mine : Numbered s tree' y.got.element next n = subst (λ v. Numbered s tree' y.got.element next v) (ap read_next z) (y.got.numbered roomy) in
-                f.numbered rs after (agree_on (kept_agree x.kept) a (omega (arith, j))) (y.got.element ∷ᵉ ts) m
+                let mine : Numbered s tree' g.got.element next y.next = subst (λ v. Numbered s tree' g.got.element next v) (ap read_next z) (g.got.numbered roomy) in
+                f.numbered rs after (agree_on (kept_agree x.kept) a (omega (arith, j))) (g.got.element ∷ᵉ ts) m
                 (more_numbered (numbered_stays mine (narrow a (omega (arith, cn)) (omega arith))) u);
           }
 
@@ -388,17 +371,14 @@ module _ (s : List ℕ) (start at p : ℕ) where
       nothing_known = λ m. absurd (m z);
     }
 
-    pub white_alone : close ≡ p → HeldTo s start at p close 1
+    white_alone : close ≡ p → HeldTo s start at p close 1
     white_alone e = ends_with 1 (λ g l. record {
       small = omega arith;
       white_known = λ _. let h = y.along.within in every-between white s start close (omega (arith, l, e)) h (λ k u w. g k u (omega (arith, w, e)));
       values_known = λ d. absurd (omega (arith, d));
     })
 
-    pub any_text : HeldTo s start at p close 0
-    any_text = ends_with 0 (λ _ _. unknown)
-
-    pub values_alone : p ≡ start → close ≡ v → HeldTo s start at p close 3
+    values_alone : p ≡ start → close ≡ v → HeldTo s start at p close 3
     values_alone a b = ends_with 3 (λ g l. record {
       small = omega arith;
       white_known = λ d. absurd (omega (arith, d));
@@ -407,3 +387,8 @@ module _ (s : List ℕ) (start at p : ℕ) where
           let i = x.along.rises in
           every-between value_character s start close (omega (arith, i, a, b)) h (λ k u w. x.in_set k (omega (arith, u, a)) (omega (arith, w, b)));
     })
+
+    pub text_alone : {known : Kind} → TextKnown start p v close known → HeldTo s start at p close (known_number known)
+    text_alone {known = text.Any} t = ends_with 0 (λ _ _. unknown)
+    text_alone {known = text.White} t = white_alone (t.white_known refl)
+    text_alone {known = text.Values} t = let (a, b) = t.values_known refl in values_alone a b

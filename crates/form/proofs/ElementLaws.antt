@@ -17,15 +17,13 @@ use Rattle.form_ranks.proofs.Classes.{letter_from, name_from}
 use Rattle.form_names.specs.Names.{name_number}
 use Rattle.form_names.proofs.Laws.{number_below}
 use Rattle.tree.specs.Laid.{between, Numbers}
-use Rattle.form_scans.specs.Scans.{from, Scanned, stops, Word, end_of, Tag, Opened, Name}
-use Rattle.form_scans.specs.declared.Scan.{Scan}
-use Rattle.form_scans.specs.declared.Scan.TheVariants.{To, StopsAt}
-use Rattle.form_scans.proofs.Laws.{from_next, from_stuck, from_short, no_to, reached, halts, first, via, giving, chain}
-use Rattle.form.specs.Reads.{Roomy, Kept, PutDown, Numbered, numbered_text, numbered_elements, Holds, Whole, held_scan, held_next, close_of, ContentRead, Placed, read_scan, read_next, ElementRead, InsideRead}
+use Rattle.form_scans.specs.Scans.{Scan, from, Scanned, stops, Word, end_of, Tag, Opened, Name}
+use Rattle.std.specs.Prelude.{Result, Ok, Err}
+use Rattle.form_scans.specs.declared.Stop.{Stop}
+use Rattle.form_scans.proofs.Laws.{from_next, from_stuck, from_short, reached, halts, first, via, giving, chain}
+use Rattle.form.specs.Reads.{known_number, Roomy, Kept, PutDown, Numbered, numbered_text, numbered_elements, Holds, Whole, held_scan, held_next, close_of, ContentRead, Placed, read_scan, read_next, ElementRead, InsideRead}
 use Rattle.form.specs.declared.Read.{Read}
-use Rattle.form.specs.declared.Read.TheVariants as read
 use Rattle.form.specs.declared.Held.{Held}
-use Rattle.form.specs.declared.Held.TheVariants as held
 use Rattle.form.proofs.Numbering.{kept_same, kept_on, put_kept, put_agrees, put_there, Agree, all_stay}
 
 -- what a rank says of a byte
@@ -42,24 +40,12 @@ module _ (b : ℕ) {r : ℕ} (e : r ≡ rank b) where
   pub not_in_name : r < 5 → letter_or_digit b ≡ false
   not_in_name l = name_from b ∙ lt-leb 5 (rank b) (omega (arith, e, l))
 
--- an answer that stops says nothing of numbers
-no_read : {n a m : ℕ} → read.StopsAt n ≡ read.To a m → ⊥
+-- an answer that stops
+pub element_stops : {s before after : List ℕ} {lt i left : ℕ} {n : Stop} → Kept before after i
+    → ((depth : ℕ) → depth + left ≡ 13 → (x : State × (Element → State)) → from s (angle depth lt x.0 x.1) (lt + 1) ≡ stops_at n.at)
+    → ElementRead s before after lt i left (Err n)
 unfolding read_scan
-no_read e = no_to (ap read_scan e)
-
-unfoldable at_of : Read → ℕ
-at_of (read.To at next) = at
-at_of (read.StopsAt n) = n
-
-read_parts : {a n a' n' : ℕ} → read.To a n ≡ read.To a' n' → (a ≡ a') × (n ≡ n')
-unfolding at_of read_next
-read_parts e = (ap at_of e, ap read_next e)
-
-pub element_stops : {s before after : List ℕ} {lt i left n : ℕ} → Kept before after i
-    → ((depth : ℕ) → depth + left ≡ 13 → (x : State × (Element → State)) → from s (angle depth lt x.0 x.1) (lt + 1) ≡ stops_at n)
-    → ElementRead s before after lt i left (read.StopsAt n)
-unfolding read_scan
-element_stops k f = record { kept = k; reads = λ depth d. stops (f depth d); goes = λ a m e. absurd (no_read e) }
+element_stops k f = record { kept = k; reads = λ depth d. stops (f depth d); goes = tt }
 
 -- no letter, too deep, and its name
 module _ (s : List ℕ) (depth lt : ℕ) (q : State) (k : Element → State) (at : ℕ) (h : at < length s) where
@@ -83,10 +69,10 @@ unfolding step
 name_full depth lt name k at b e = rw e
 
 module _ (s tree : List ℕ) (lt i left : ℕ) (h : lt + 1 < length s) where
-  pub no_letter : letter (get_or s (lt + 1) 0) ≡ false → (get_or s (lt + 1) 0 ≡ 47 → ⊥) → ElementRead s tree tree lt i left (read.StopsAt (lt + 1))
+  pub no_letter : letter (get_or s (lt + 1) 0) ≡ false → (get_or s (lt + 1) 0 ≡ 47 → ⊥) → ElementRead s tree tree lt i left (Err (record { at = lt + 1 }))
   no_letter e n = element_stops kept_same (λ depth _ x. angle_stuck s depth lt x.0 x.1 (lt + 1) h e n)
 
-  pub too_deep : letter (get_or s (lt + 1) 0) ≡ true → left ≡ 0 → ElementRead s tree tree lt i left (read.StopsAt (lt + 1))
+  pub too_deep : letter (get_or s (lt + 1) 0) ≡ true → left ≡ 0 → ElementRead s tree tree lt i left (Err (record { at = lt + 1 }))
   too_deep e z = element_stops kept_same (λ depth d x. angle_deep s depth lt x.0 x.1 (lt + 1) h e (omega (arith, d, z)))
 
   module _ (e : ℕ) (l : letter (get_or s (lt + 1) 0) ≡ true) (n : Name s (lt + 1) e) (m : (left ≡ 0 → ⊥)) where
@@ -94,11 +80,11 @@ module _ (s tree : List ℕ) (lt i left : ℕ) (h : lt + 1 < length s) where
         → from s (angle depth lt x.0 x.1) (lt + 1) ≡ from s (naming depth lt (between (lt + 1) e s) (lt + 1 + 32 - e) x.1) e
     named depth d x = angle_names s depth lt x.0 x.1 (lt + 1) h l (omega (arith, d, m)) ∙ n.spelt.names depth lt x.1
 
-    pub name_short : e ≡ length s → ElementRead s tree tree lt i left (read.StopsAt e)
+    pub name_short : e ≡ length s → ElementRead s tree tree lt i left (Err (record { at = e }))
     unfolding ended
     name_short z = element_stops kept_same (λ depth d x. named depth d x ∙ from_short s _ e (omega (arith, z)) refl)
 
-    pub name_long : e < length s → letter_or_digit (get_or s e 0) ≡ true → ElementRead s tree tree lt i left (read.StopsAt e)
+    pub name_long : e < length s → letter_or_digit (get_or s e 0) ≡ true → ElementRead s tree tree lt i left (Err (record { at = e }))
     name_long j f =
         let full : lt + 1 + 32 - e ≡ 0 = let o = n.other j f in omega (arith, o) in
         element_stops kept_same (λ depth d x. named depth d x ∙ stuck depth x.1 full)
@@ -114,17 +100,17 @@ module _ (s tree : List ℕ) (lt i left : ℕ) (h : lt + 1 < length s) where
       tagged depth d = let j = n.spelt.rises in first (omega (arith, j)) (named depth d) (via (λ x. x.1) (t depth (lt + 1 + 32 - e)))
 
       -- where it goes on
-      pub tag_goes : left ≤ 13 → {p : ℕ} → r ≡ To p → (p ≤ length s) × (lt + 2 + length (between (lt + 1) e s) ≤ p)
+      pub tag_goes : left ≤ 13 → {p : ℕ} → r ≡ Ok p → (p ≤ length s) × (lt + 2 + length (between (lt + 1) e s) ≤ p)
       unfolding end_of
       tag_goes d {p} f =
           let y = reached (tagged (13 - left) (omega (arith, d))) f in
           (y.within, let k = y.got.long in let m = ap end_of f in omega (arith, k, m))
 
-      pub tag_stops : {z : ℕ} → r ≡ StopsAt z → ElementRead s tree tree lt i left (read.StopsAt z)
+      pub tag_stops : {z : Stop} → r ≡ Err z → ElementRead s tree tree lt i left (Err z)
       unfolding read_scan
-      tag_stops f = record { kept = kept_same; reads = λ depth d. halts (tagged depth d) f; goes = λ a k z. absurd (no_read z) }
+      tag_stops f = record { kept = kept_same; reads = λ depth d. halts (tagged depth d) f; goes = tt }
 
-      pub element_read : {p : ℕ} {after : List ℕ} {y : Read} → r ≡ To p → InsideRead s tree after lt e p i left y → ElementRead s tree after lt i left y
+      pub element_read : {p : ℕ} {after : List ℕ} {y : Result Read Stop} → r ≡ Ok p → InsideRead s tree after lt e p i left y → ElementRead s tree after lt i left y
       unfolding end_of
       element_read {p} f c = record {
         kept = c.kept;
@@ -143,7 +129,7 @@ pub part_long : (s : List ℕ) (a e : ℕ) → a ≤ e → e ≤ length s → le
 part_long s a e l h = length-take-le (e - a) (drop a s) (let k = length-drop a s in omega (arith, k, l, h))
 
 -- What an element holds, its end tag, and its numbers.
-pub as_held : {s before after : List ℕ} {start i left : ℕ} {r h : Held} → r ≡ h → ContentRead s before after start i left r → ContentRead s before after start i left h
+pub as_held : {s before after : List ℕ} {start i left : ℕ} {r h : Result Held Stop} → r ≡ h → ContentRead s before after start i left r → ContentRead s before after start i left h
 as_held {s} {before} {after} {start} {i} {left} e c = subst (λ z. ContentRead s before after start i left z) e c
 
 whole_kept : {before tree : List ℕ} (i : ℕ) → Kept before tree (i + 1) → Kept before tree i
@@ -155,63 +141,62 @@ unfolding head_of Holds
 finished i next (holding_text h w) a n e = numbered_text n e
 finished i next (holding_elements h ts) a n (l, all) = numbered_elements n l (all_stay all (a next))
 
-module _ (s before tree : List ℕ) (lt e start i left n : ℕ) where
-  pub held_stops : 1 ≤ left → ContentRead s before tree start (i + 1) (left - 1) (held.StopsAt n) → InsideRead s before tree lt e start i left (read.StopsAt n)
+module _ (s before tree : List ℕ) (lt e start i left : ℕ) {n : Stop} where
+  pub held_stops : 1 ≤ left → ContentRead s before tree start (i + 1) (left - 1) (Err n) → InsideRead s before tree lt e start i left (Err n)
   unfolding held_scan read_scan
   held_stops one c = record {
     kept = whole_kept i c.kept;
     reads = λ depth d o. halts (c.reads o.tag (let j = o.its_depth in omega (arith, d, j, one))) refl;
-    goes = λ a k f. absurd (no_read f);
+    goes = tt;
   }
 
 -- An element of a name and a depth, whose first child has number i + 1, up to behind its end tag.
-module _ (i : ℕ) {s before tree : List ℕ} {start left close next known : ℕ} (c : ContentRead s before tree start (i + 1) left (held.To close next known))
-    {name : List ℕ} {r : Scan} (w : Word s close (end_tag name) r) {depth lt : ℕ} (o : Tag name depth lt start) where
-  pub closing : depth + left ≡ 12 → Scanned s start (blank o.tag []) (λ k (a : Whole s tree o.tag close (i + 1) next). k a.element) r
+module _ (i : ℕ) {s before tree : List ℕ} {start left : ℕ} {h : Held} (c : ContentRead s before tree start (i + 1) left (Ok h))
+    {name : List ℕ} {r : Scan} (w : Word s h.close (end_tag name) r) {depth lt : ℕ} (o : Tag name depth lt start) where
+  pub closing : depth + left ≡ 12 → Scanned s start (blank o.tag []) (λ k (a : Whole s tree o.tag h.close (i + 1) h.next). k a.element) r
   unfolding held_scan held_next close_of
   closing d =
-      let w' : Word s close (end_tag o.tag.name) r = subst (λ n. Word s close (end_tag n) r) (sym o.its_name) w in
+      let w' : Word s h.close (end_tag o.tag.name) r = subst (λ n. Word s h.close (end_tag n) r) (sym o.its_name) w in
       chain (c.reads o.tag (let j = o.its_depth in omega (arith, d, j))) refl (λ a. giving (λ _. a) (λ k _. refl) (via (λ k. k a.element) w'.reads))
 
   -- It has its numbers, once they are put down.
-  pub numbered_then : {after : List ℕ} {number : ℕ} → PutDown tree after i lt number start close next known → number ≡ name_number name → start ≤ length s
-      → 7 * i ≤ start + 41 → (a : Whole s tree o.tag close (i + 1) next) → Roomy s after → Numbered s after a.element i next
+  pub numbered_then : {after : List ℕ} {number : ℕ} → PutDown tree after i lt number start h.close h.next (known_number h.text) → number ≡ name_number name → start ≤ length s
+      → 7 * i ≤ start + 41 → (a : Whole s tree o.tag h.close (i + 1) h.next) → Roomy s after → Numbered s after a.element i h.next
   unfolding closed
   numbered_then p number_is sl few a roomy =
       let k = (put_kept p).length_kept in
       let rl = roomy.long in
       let sh = roomy.short in
-      let (g₁, g₂, g₃, g₄, g₅) = c.goes close next known refl in
+      let (g₁, g₂, g₃, g₄, g₅) = c.goes in
       let ol = o.long in
       let nb = number_below name in
-      finished i next a.element (put_agrees p)
+      finished i h.next a.element (put_agrees p)
       (put_there p s (head_of a.element) (omega (arith, k, rl)) (omega (arith, g₃, g₄, few, sh)) (omega (arith, g₁)) (omega (arith, ol, sl, sh))
       (omega (arith, sl, sh)) (omega (arith, g₃, sh)) (omega (arith, nb, number_is)) (sym (ap (λ h. h.at) a.its_head ∙ o.its_at))
       (number_is ∙ ap name_number (sym (ap (λ h. h.name) a.its_head ∙ o.its_name))) (sym (ap (λ h. h.start) a.its_head ∙ o.its_start))
       (sym (ap (λ h. h.close) a.its_head)) g₅)
       (a.holds (record { short = sh; long = omega (arith, k, rl) }))
 
-module _ (s before tree : List ℕ) (lt e start i left close next known : ℕ) (c : ContentRead s before tree start (i + 1) (left - 1) (held.To close next known)) (one : 1 ≤ left)
-    {r : Scan} (w : Word s close (end_tag (between (lt + 1) e s)) r) where
-  pub end_stops : {n : ℕ} → r ≡ StopsAt n → InsideRead s before tree lt e start i left (read.StopsAt n)
+module _ (s before tree : List ℕ) (lt e start i left : ℕ) {h : Held} (c : ContentRead s before tree start (i + 1) (left - 1) (Ok h)) (one : 1 ≤ left)
+    {r : Scan} (w : Word s h.close (end_tag (between (lt + 1) e s)) r) where
+  pub end_stops : {n : Stop} → r ≡ Err n → InsideRead s before tree lt e start i left (Err n)
   unfolding read_scan
-  end_stops f = record { kept = whole_kept i c.kept; reads = λ depth d o. halts (closing i c w o (omega (arith, d, one))) f; goes = λ a k g. absurd (no_read g) }
+  end_stops f = record { kept = whole_kept i c.kept; reads = λ depth d o. halts (closing i c w o (omega (arith, d, one))) f; goes = tt }
 
-  module _ (after : List ℕ) (number q : ℕ) (f : r ≡ To q) (p : PutDown tree after i lt number start close next known) (few : 7 * i + 4 * left ≤ lt + 48)
+  module _ (after : List ℕ) (number q : ℕ) (f : r ≡ Ok q) (p : PutDown tree after i lt number start h.close h.next (known_number h.text)) (few : 7 * i + 4 * left ≤ lt + 48)
       (le : lt + 1 < e) (es : e < start) (sl : start ≤ length s) (number_is : number ≡ name_number (between (lt + 1) e s)) where
-    placed : (depth : ℕ) (o : Tag (between (lt + 1) e s) depth lt start) → Whole s tree o.tag close (i + 1) next → Placed s after i next
+    placed : (depth : ℕ) (o : Tag (between (lt + 1) e s) depth lt start) → Whole s tree o.tag h.close (i + 1) h.next → Placed s after i h.next
     placed depth o a = record { element = a.element; numbered = numbered_then i c w o p number_is sl (omega (arith, few, one, le, es)) a }
 
-    pub inside_read : InsideRead s before after lt e start i left (read.To q next)
+    pub inside_read : InsideRead s before after lt e start i left (Ok (record { at = q; next = h.next }))
     unfolding read_scan read_next placed
     inside_read = record {
       kept = kept_on (whole_kept i c.kept) (put_kept p) (omega arith);
-      reads = λ depth d o. subst (λ z. Scanned s start (blank o.tag []) (λ k (a : Placed s after i next). k a.element) z) f (giving (placed depth o) (λ k _. refl) (closing i c w o (omega (arith, d, one))));
-      goes = λ x y z.
-          let (z₁, z₂) = read_parts z in
-          let (g₁, g₂, g₃, g₄, g₅) = c.goes close next known refl in
+      reads = λ depth d o. subst (λ z. Scanned s start (blank o.tag []) (λ k (a : Placed s after i h.next). k a.element) z) f (giving (placed depth o) (λ k _. refl) (closing i c w o (omega (arith, d, one))));
+      goes =
+          let (g₁, g₂, g₃, g₄, g₅) = c.goes in
           let g = w.goes q f in
           let l₁ = end_long (between (lt + 1) e s) in
           let l₂ = part_long s (lt + 1) e (omega (arith, le)) (omega (arith, es, sl)) in
-          (omega (arith, g₁, z₂), omega (arith, g₄, g, l₁, l₂, le, es, z₁, z₂));
+          (omega (arith, g₁), omega (arith, g₄, g, l₁, l₂, le, es));
     }

@@ -12,7 +12,9 @@ use Rattle.paper.specs.Form.{Head, Element, Elements, amount_tag, end_tag, IsSta
 use Rattle.paper_grammar.proofs.Standing.{TagsInPlace, InPlace, text_in_place, elements_in_place, AllInPlace, none_in_place, more_in_place}
 use Rattle.form_names.specs.Names.{name_number}
 use Rattle.tree.specs.Laid.{cell_of, between, Numbers, Written, Laid, laid_text, laid_elements, LaidAll, laid_none, laid_more}
-use Rattle.form.specs.Reads.{Kept, put, PutDown, Known, Numbered, numbered_text, numbered_elements, AllNumbered, none_numbered, more_numbered}
+use Rattle.form.specs.declared.Kind.{Kind}
+use Rattle.form.specs.declared.Kind.TheVariants as text
+use Rattle.form.specs.Reads.{known_number, Kept, put, PutDown, Known, Numbered, numbered_text, numbered_elements, AllNumbered, none_numbered, more_numbered}
 
 pub kept_same : {b : List ℕ} {i : ℕ} → Kept b b i
 kept_same = record { length_kept = refl; kept = λ k h. refl }
@@ -94,6 +96,12 @@ pub put_same : (b : List ℕ) (i : ℕ) {x₀ x₁ x₂ x₃ x₄ x₅ y₀ y₁
     → set (set (set (set (set (set b (i * 6) x₀) (i * 6 + 1) x₁) (i * 6 + 2) x₂) (i * 6 + 3) x₃) (i * 6 + 4) x₄) (i * 6 + 5) x₅ ≡ put b i y₀ y₁ y₂ y₃ y₄ y₅
 unfolding put
 put_same b i a c d e f g = rw (a, c, d, e, f, g)
+
+-- What is known of a text has a small number.
+pub known_small : (text : Kind) → known_number text ≡ known_number text % 65536
+known_small text.Any = refl
+known_small text.White = refl
+known_small text.Values = refl
 
 module _ {b b' : List ℕ} {i lt number start close next known : ℕ} (p : PutDown b b' i lt number start close next known) where
   here : i < 4700 → Six b b' i (lt % 65536) (number % 65536) (start % 65536) (close % 65536) (next % 65536) (known % 65536)

@@ -1,26 +1,27 @@
 -- How the machine runs on over the whole message: the declaration, the root, the white space around it, and what that says of the form.
 use Prim.Native.Nat.{ℕ, ◌+◌, ◌≤◌, ◌<◌}
-use mathlib.Core.List.{List, []}
+use mathlib.Core.List.{List, [], ◌∷◌}
 use mathlib.Core.Option.{none, some}
-use mathlib.Core.Bool.{Bool, true, false}
+use mathlib.Core.Bool.{Bool, true, false, false≢true}
 use mathlib.Core.Path.{◌≡◌, refl, sym, subst, ◌∙◌}
 use native.Mathlib.Decide.{dec_le}
 use native.Mathlib.Omega.{arith}
 use lib.ListN.{length, get_or, drop, drop_of_length-le}
 use lib.Dec.{eqb}
 use borrow.Author.Tests.{eqb-true, eqb-false, ne_eqb}
+use Rattle.std.specs.List.{starts_with}
+use Rattle.paper.proofs.Laws.{both_left, both_right}
 use Rattle.paper.specs.Bytes.{bytes, is, one_of, white, same}
 use Rattle.paper.specs.Form.{Element, IsMessage, root_tag, end_tag, declaration}
 use Rattle.paper.specs.Rows.{leaf, group, group_under, rows, instant_changes, every_row}
 use Rattle.paper.specs.Computed.Reading.{opening, opened, before, after, want, blank, in_root, step, ended, run, read, root_is}
 use Rattle.form.specs.Promise.{FormPromise}
 use Rattle.form_names.specs.Names.{number_in, name_number}
-use Rattle.form_scans.specs.Scans.{from, Scanned, Word, Tag, White}
-use Rattle.form.specs.Reads.{PutDown, Whole, held_scan, ContentRead, Prologue, Root, InRoot, RootRead}
-use Rattle.form.specs.declared.Held.TheVariants as held
-use Rattle.form.specs.declared.Form.TheVariants.{OfTheForm, RefusedAt}
-use Rattle.form_scans.specs.declared.Scan.{Scan}
-use Rattle.form_scans.specs.declared.Scan.TheVariants.{To, StopsAt}
+use Rattle.form_scans.specs.Scans.{Scan, from, Scanned, Word, Tag, White}
+use Rattle.form.specs.Reads.{PutDown, known_number, Whole, held_scan, ContentRead, Prologue, Root, InRoot, RootRead}
+use Rattle.form.specs.declared.Held.{Held}
+use Rattle.std.specs.Prelude.{Ok, Err}
+use Rattle.form_scans.specs.declared.Stop.{Stop}
 use Rattle.paper_grammar.proofs.Complete.{after_stays, before_stays}
 use Rattle.paper_grammar.proofs.Stops.{stop_is_refusal}
 use Rattle.paper_grammar.proofs.Sound.{sound}
@@ -44,6 +45,18 @@ unfolding declaration bytes
 declared s l e f =
     alike_next s opening _ 0 (omega arith) (opening_angle (get_or s 0 0) e) (want_step 60 (drop 1 declaration) before 0 (get_or s 0 0) e)
     (alike_next s opened _ 1 l (opened_declares (get_or s 1 0) f) (want_step 63 (drop 2 declaration) before 1 (get_or s 1 0) f) refl)
+
+-- whether a message begins with `<?`
+pub begins : (s : List ℕ) → starts_with eqb s (60 ∷ 63 ∷ []) ≡ true → (1 < length s) × (get_or s 0 0 ≡ 60) × (get_or s 1 0 ≡ 63)
+begins [] e = absurd (false≢true e)
+begins (a ∷ []) e = absurd (false≢true (both_right (eqb 60 a) false e))
+begins (a ∷ b ∷ s) e =
+    (omega arith, sym (eqb-true 60 a (both_left (eqb 60 a) _ e)), sym (eqb-true 63 b (both_left (eqb 63 b) true (both_right (eqb 60 a) _ e))))
+
+pub begins_not : (s : List ℕ) → starts_with eqb s (60 ∷ 63 ∷ []) ≡ false → 1 < length s → get_or s 0 0 ≡ 60 → get_or s 1 0 ≡ 63 → ⊥
+begins_not [] e l f g = absurd (omega (arith, l))
+begins_not (a ∷ []) e l f g = absurd (omega (arith, l))
+begins_not (a ∷ b ∷ s) e l f g = false≢true (sym e ∙ rw (f, g) refl)
 
 -- no declaration: the root may begin at once
 before_angle : (at b : ℕ) → b ≡ 60 → step before at b ≡ some (want (drop 1 root_tag) (in_root at))
@@ -127,14 +140,14 @@ module _ {s : List ℕ} {at : ℕ} {r : Scan} (w : at < length s → white (get_
   tag_read : Scanned {K = Unit {0}} {A = Unit {0}} s at (λ _. before) (λ _ _. in_root at) r
   tag_read = first (omega arith) (λ _. root_begins s at w) (via (λ _. in_root at) h.reads)
 
-  pub root_stops : {tree : List ℕ} {n : ℕ} → r ≡ StopsAt n → RootRead s tree at before (StopsAt n)
+  pub root_stops : {tree : List ℕ} {n : Stop} → r ≡ Err n → RootRead s tree at before (Err n)
   root_stops e = halts tag_read e
 
-  pub root_length : {p : ℕ} → r ≡ To p → p ≡ at + 65
+  pub root_length : {p : ℕ} → r ≡ Ok p → p ≡ at + 65
   unfolding root_tag bytes
   root_length {p} e = h.goes p e
 
-  pub root_read : {tree : List ℕ} {p : ℕ} {y : Scan} → r ≡ To p → InRoot s tree at p y → RootRead s tree at before y
+  pub root_read : {tree : List ℕ} {p : ℕ} {y : Scan} → r ≡ Ok p → InRoot s tree at p y → RootRead s tree at before y
   unfolding in_root root_tag bytes
   root_read {p} e c =
       chain tag_read e
@@ -150,28 +163,28 @@ module _ {s : List ℕ} {at : ℕ} {r : Scan} (w : at < length s → white (get_
 
 -- what the root holds, its end tag, and its numbers
 module _ (s before tree : List ℕ) (at start : ℕ) where
-  pub in_root_stops : {n : ℕ} → ContentRead s before tree start 1 11 (held.StopsAt n) → InRoot s tree at start (StopsAt n)
+  pub in_root_stops : {n : Stop} → ContentRead s before tree start 1 11 (Err n) → InRoot s tree at start (Err n)
   unfolding held_scan
   in_root_stops c o = halts (c.reads o.tag (let j = o.its_depth in omega (arith, j))) refl
 
-  module _ (close next known : ℕ) (c : ContentRead s before tree start 1 11 (held.To close next known)) {r : Scan} (w : Word s close (end_tag (bytes "Document")) r) where
-    pub root_end_stops : {n : ℕ} → r ≡ StopsAt n → InRoot s tree at start (StopsAt n)
+  module _ {h : Held} (c : ContentRead s before tree start 1 11 (Ok h)) {r : Scan} (w : Word s h.close (end_tag (bytes "Document")) r) where
+    pub root_end_stops : {n : Stop} → r ≡ Err n → InRoot s tree at start (Err n)
     root_end_stops f o = halts (closing 0 c w o refl) f
 
-    module _ (after : List ℕ) (q : ℕ) (f : r ≡ To q) (p : PutDown tree after 0 at 1 start close next known) (sl : start ≤ length s) where
-      root_placed : (o : Tag (bytes "Document") 1 at start) → Whole s tree o.tag close 1 next → Root s after
-      root_placed o a = record { element = a.element; next = next; numbered = numbered_then 0 c w o p root_number sl (omega arith) a }
+    module _ (after : List ℕ) (q : ℕ) (f : r ≡ Ok q) (p : PutDown tree after 0 at 1 start h.close h.next (known_number h.text)) (sl : start ≤ length s) where
+      root_placed : (o : Tag (bytes "Document") 1 at start) → Whole s tree o.tag h.close 1 h.next → Root s after
+      root_placed o a = record { element = a.element; next = h.next; numbered = numbered_then 0 c w o p root_number sl (omega arith) a }
 
-      pub in_root-read : InRoot s after at start (To q)
+      pub in_root-read : InRoot s after at start (Ok q)
       unfolding root_placed
       in_root-read o =
           subst (λ z. Scanned s start (blank o.tag []) (λ k (a : Root s after). k a.element) z) f (giving (root_placed o) (λ k _. refl) (closing 0 c w o refl))
 
 -- the message up to behind the root
-pub prologue_stops : {s tree : List ℕ} {r : Scan} {n : ℕ} → Prologue s r → r ≡ StopsAt n → RootRead s tree 0 opening (StopsAt n)
+pub prologue_stops : {s tree : List ℕ} {r : Scan} {n : Stop} → Prologue s r → r ≡ Err n → RootRead s tree 0 opening (Err n)
 prologue_stops h e = halts h e
 
-pub whole_root : {s tree : List ℕ} {p m : ℕ} {r y : Scan} → Prologue s r → r ≡ To p → White s p m → RootRead s tree m before y → RootRead s tree 0 opening y
+pub whole_root : {s tree : List ℕ} {p m : ℕ} {r y : Scan} → Prologue s r → r ≡ Ok p → White s p m → RootRead s tree m before y → RootRead s tree 0 opening y
 whole_root h e w g = chain h e (λ _. first w.through.rises (λ _. w.through.stays before before_stays) g)
 
 after_stuck : (t : Element) (at b : ℕ) → white b ≡ false → step (after t) at b ≡ none
@@ -179,19 +192,19 @@ unfolding step
 after_stuck t at b e = rw e
 
 -- what the answer says
-pub refused : {s tree : List ℕ} {r : Scan} {n : ℕ} → RootRead s tree 0 opening r → r ≡ StopsAt n → FormPromise s tree (RefusedAt n)
+pub refused : {s tree : List ℕ} {r : Scan} {n : Stop} → RootRead s tree 0 opening r → r ≡ Err n → FormPromise s tree (Err n)
 unfolding FormPromise read from
-refused {s} {n = n} h e = stop_is_refusal s n (halted h e tt)
+refused {s} {n = n} h e = stop_is_refusal s n.at (halted h e tt)
 
 ended_well : (s : List ℕ) (e : ℕ) → e ≡ length s → (t : Element) → from s (after t) e ≡ root_is t
 unfolding from run ended
 ended_well s e l t = rw (drop_of_length-le s {i = e} (omega arith))
 
-module _ {s tree : List ℕ} {r : Scan} {p e : ℕ} (h : RootRead s tree 0 opening r) (z : r ≡ To p) (w : White s p e) where
+module _ {s tree : List ℕ} {r : Scan} {p e : ℕ} (h : RootRead s tree 0 opening r) (z : r ≡ Ok p) (w : White s p e) where
   behind_root : (a : Root s tree) × (from s opening 0 ≡ from s (after a.element) e)
   behind_root = let g = reached h z in (g.got, g.runs tt ∙ w.through.stays (after g.got.element) (after_stays g.got.element))
 
-  pub accepted : e ≡ length s → 28200 ≤ length tree → FormPromise s tree OfTheForm
+  pub accepted : e ≡ length s → 28200 ≤ length tree → FormPromise s tree (Ok tt)
   unfolding FormPromise read from
   accepted l long =
       let (a, f) = behind_root in
@@ -202,7 +215,7 @@ module _ {s tree : List ℕ} {r : Scan} {p e : ℕ} (h : RootRead s tree 0 openi
         laid = λ short. record { next = a.next; laid = laid (a.numbered (record { short = short; long = long })) (in_place m) };
       }
 
-  pub trailing : (e ≡ length s → ⊥) → FormPromise s tree (RefusedAt e)
+  pub trailing : (e ≡ length s → ⊥) → FormPromise s tree (Err (record { at = e }))
   unfolding FormPromise read from
   trailing l =
       let (a, f) = behind_root in

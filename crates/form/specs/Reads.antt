@@ -1,17 +1,16 @@
 -- What the functions of `form` say: how the machine of `paper` runs on over elements, and where their numbers are put down.
-use Rattle.std.specs.Prelude.{ℕ, ◌+◌, ◌*◌, ◌%◌, ◌≤◌, ◌<◌, List, [], Bool, true, false, ◌≡◌, length, get_or, set}
+use Rattle.std.specs.Prelude.{ℕ, ◌+◌, ◌*◌, ◌%◌, ◌≤◌, ◌<◌, List, [], Bool, true, false, ◌≡◌, length, get_or, set, Result, Ok, Err, IfOk}
 use Rattle.paper.specs.Bytes.{bytes, white, value_character, text_byte, Every}
 use Rattle.paper.specs.Form.{Element, Elements, Head, holding_text, holding_elements, []ᵉ, ◌∷ᵉ◌, end_tag}
 use Rattle.paper.specs.Rows.{head_of}
 use Rattle.paper.specs.Computed.Reading.{Open, closed, State, opening, before, after, angle, blank, want}
 use Rattle.tree.specs.Laid.{between, Numbers}
-use Rattle.form_scans.specs.Scans.{Scanned, Along, Tag}
-use Rattle.form_scans.specs.declared.Scan.{Scan}
-use Rattle.form_scans.specs.declared.Scan.TheVariants as scan
+use Rattle.form_scans.specs.Scans.{Scan, Scanned, Along, Tag}
+use Rattle.form_scans.specs.declared.Stop.{Stop}
 use Rattle.form.specs.declared.Read.{Read}
-use Rattle.form.specs.declared.Read.TheVariants as read
 use Rattle.form.specs.declared.Held.{Held}
-use Rattle.form.specs.declared.Held.TheVariants as held
+use Rattle.form.specs.declared.Kind.{Kind}
+use Rattle.form.specs.declared.Kind.TheVariants.{Any, White, Values}
 
 -- Only numbers of element i and of those after it change.
 pub record Kept (before after : List ℕ) (i : ℕ) : Type 0 where
@@ -55,6 +54,17 @@ pub record ChildAt (s : List ℕ) (at : ℕ) (r : Bool) : Type 0 where
   pub there : r ≡ true → Child s at
   pub not_there : r ≡ false → Child s at → ⊥
 
+-- the number that tells what is known of a text
+abbrev pub known_number : Kind → ℕ
+known_number Any = 0
+known_number White = 1
+known_number Values = 3
+
+-- what the code finds known of a text, by the offsets at which its white space, the characters of values behind it, and itself end
+pub record TextKnown (start p values close : ℕ) (text : Kind) : Type 0 where
+  pub white_known : text ≡ White → close ≡ p
+  pub values_known : text ≡ Values → (p ≡ start) × (close ≡ values)
+
 -- What is known of the text between two offsets.
 pub record Known (s : List ℕ) (start close known : ℕ) : Type 0 where
   pub small : known < 65536
@@ -69,25 +79,24 @@ pub record HeldTo (s : List ℕ) (start at p close known : ℕ) : Type 0 where
   pub nothing_known : (at ≡ start → ⊥) → known ≡ 0
 
 unfoldable pub HeldAt : (s : List ℕ) (start at p next : ℕ) → Held → Type 0
-HeldAt s start at p next (held.To close n known) = (n ≡ next) × HeldTo s start at p close known
-HeldAt s start at p next (held.StopsAt n) = ⊥
+HeldAt s start at p next held = (held.next ≡ next) × HeldTo s start at p held.close (known_number held.text)
 
 -- How far it was read, and the number of the next element.
-unfoldable pub held_scan : Held → Scan
-held_scan (held.To close next known) = scan.To close
-held_scan (held.StopsAt n) = scan.StopsAt n
+unfoldable pub held_scan : Result Held Stop → Scan
+held_scan (Ok held) = Ok held.close
+held_scan (Err stop) = Err stop
 
-unfoldable pub held_next : Held → ℕ
-held_next (held.To close next known) = next
-held_next (held.StopsAt n) = 0
+unfoldable pub held_next : Result Held Stop → ℕ
+held_next (Ok held) = held.next
+held_next (Err stop) = 0
 
-unfoldable pub read_scan : Read → Scan
-read_scan (read.To at next) = scan.To at
-read_scan (read.StopsAt n) = scan.StopsAt n
+unfoldable pub read_scan : Result Read Stop → Scan
+read_scan (Ok read) = Ok read.at
+read_scan (Err stop) = Err stop
 
-unfoldable pub read_next : Read → ℕ
-read_next (read.To at next) = next
-read_next (read.StopsAt n) = 0
+unfoldable pub read_next : Result Read Stop → ℕ
+read_next (Ok read) = read.next
+read_next (Err stop) = 0
 
 -- What an element holds has its numbers: a text none, elements theirs.
 unfoldable pub Holds : (s tree : List ℕ) → Element → (i next : ℕ) → Type 0
@@ -101,17 +110,17 @@ pub record Whole (s tree : List ℕ) (o : Open) (close i next : ℕ) : Type 0 wh
   pub holds : Roomy s tree → Holds s tree element i next
 
 -- the offset of the end tag
-unfoldable pub close_of : Held → ℕ
-close_of (held.To close next known) = close
-close_of (held.StopsAt n) = n
+unfoldable pub close_of : Result Held Stop → ℕ
+close_of (Ok held) = held.close
+close_of (Err stop) = stop.at
 
 -- What an element holds is read up to its end tag, from the state behind its start tag. Its depth and what is left of it make 12.
-pub record ContentRead (s before after : List ℕ) (start i left : ℕ) (r : Held) : Type 0 where
+pub record ContentRead (s before after : List ℕ) (start i left : ℕ) (r : Result Held Stop) : Type 0 where
   pub kept : Kept before after i
   pub reads : (o : Open) → o.depth + left ≡ 12
       → Scanned s start (blank o []) (λ k (a : Whole s after o (close_of r) i (held_next r)). want (end_tag o.name) (k a.element)) (held_scan r)
-  pub goes : (close next known : ℕ) → r ≡ held.To close next known
-      → (i ≤ next) × (start ≤ close) × (close ≤ length s) × (7 * next + start ≤ 7 * i + close) × Known s start close known
+  pub goes : IfOk r (λ held. (i ≤ held.next) × (start ≤ held.close) × (held.close ≤ length s) × (7 * held.next + start ≤ 7 * i + held.close)
+      × Known s start held.close (known_number held.text))
 
 -- An element that has its numbers.
 pub record Placed (s tree : List ℕ) (i next : ℕ) : Type 0 where
@@ -119,18 +128,18 @@ pub record Placed (s tree : List ℕ) (i next : ℕ) : Type 0 where
   pub numbered : Roomy s tree → Numbered s tree element i next
 
 -- A child is read behind its `<`. Its depth and what is left make 13.
-pub record ElementRead (s before after : List ℕ) (lt i left : ℕ) (r : Read) : Type 0 where
+pub record ElementRead (s before after : List ℕ) (lt i left : ℕ) (r : Result Read Stop) : Type 0 where
   pub kept : Kept before after i
   pub reads : (depth : ℕ) → depth + left ≡ 13
       → Scanned s (lt + 1) (λ (x : State × (Element → State)). angle depth lt x.0 x.1) (λ x (a : Placed s after i (read_next r)). x.1 a.element) (read_scan r)
-  pub goes : (at next : ℕ) → r ≡ read.To at next → (i < next) × (7 * next + lt ≤ 7 * i + at)
+  pub goes : IfOk r (λ read. (i < read.next) × (7 * read.next + lt ≤ 7 * i + read.at))
 
 -- The same behind its start tag.
-pub record InsideRead (s before after : List ℕ) (lt e start i left : ℕ) (r : Read) : Type 0 where
+pub record InsideRead (s before after : List ℕ) (lt e start i left : ℕ) (r : Result Read Stop) : Type 0 where
   pub kept : Kept before after i
   pub reads : (depth : ℕ) → depth + left ≡ 13 → (o : Tag (between (lt + 1) e s) depth lt start)
       → Scanned s start (blank o.tag []) (λ k (a : Placed s after i (read_next r)). k a.element) (read_scan r)
-  pub goes : (at next : ℕ) → r ≡ read.To at next → (i < next) × (7 * next + lt ≤ 7 * i + at)
+  pub goes : IfOk r (λ read. (i < read.next) × (7 * read.next + lt ≤ 7 * i + read.at))
 
 -- the whole message up to a state in which the root is still to come
 abbrev pub Prologue : (s : List ℕ) → Scan → Type 0

@@ -1,45 +1,32 @@
--- The number of a name, and when two names have one number; the table compared with a name, byte by byte.
+-- The number of a name, and when two names have one number; the table compared with a name.
 use Rattle.std.specs.Prelude.{if◌then◌else◌}
 use Prim.Native.Nat.{ℕ, zero, suc, ◌+◌, ◌*◌, ◌-◌, ◌%◌, ◌≤◌, ◌<◌}
 use mathlib.Core.List.{List, [], ◌∷◌}
-use mathlib.Core.Bool.{Bool, true, false, ◌&&◌, false≢true}
+use mathlib.Core.Bool.{Bool, true, false, ◌&&◌, not, false≢true}
 use mathlib.Core.Path.{◌≡◌, refl, sym, ap, ◌∙◌}
-use native.Mathlib.Numerals.{add-one, unary_clauses}
 use native.Mathlib.Omega.{arith}
-use lib.ListN.{length, get_or, take, drop, drop_of_length-le}
-use lib.Seq.{drop-cons}
+use lib.ListN.{length, get_or, take, drop}
 use lib.Dec.{eqb, leb}
-use borrow.Author.Tests.{lt-ltb, le-ltb, eqb-true, eqb-false, eq-eqb, ne_eqb, leb-true, le-leb}
+use borrow.Author.Tests.{lt-ltb, le-ltb, eqb-true, eqb-false, leb-true, le-leb}
+use borrow.Rule.Slice.PartMut.{mid_of}
+use Rattle.std.specs.Cmp.Lexicographic.{pointwise}
+use Rattle.leaf_texts.proofs.Laws.{same_is}
 use Rattle.paper.specs.Bytes.{bytes, same}
 use Rattle.paper.specs.Rows.{Row, leaf, group, group_under, rows, instant_changes, every_row, name_in, name}
 use Rattle.paper.proofs.Laws.{both_left, both_right, same_says, same_tests}
 use Rattle.form_names.specs.Names.{number_in, name_number, is_row, slot_of, length_in, number_of, name_of, NamesAre}
 
--- What stands in the table from a place on, compared with a name from place k on.
-module _ (table : List ℕ) (from : ℕ) (w : List ℕ) where
-  abbrev pub left_from : ℕ → Bool
-  left_from k = same (take (length w - k) (drop (from + k) table)) (drop k w)
+-- A part of the table, compared with a name by `!=`.
+not_not : (b : Bool) → not (not b) ≡ b
+not_not true = refl
+not_not false = refl
 
-  pub stands_start : same (take (length w) (drop from table)) w ≡ left_from 0
-  stands_start = let a : from + 0 ≡ from = omega arith in rw a (simp unary_clauses refl)
-
-  module _ (k : ℕ) where
-    pub stands_goes : k < length w → from + k < length table → get_or table (from + k) 0 ≡ get_or w k 0 → left_from k ≡ left_from (k + 1)
-    unfolding same
-    stands_goes h l e =
-        let n : length w - k ≡ suc (length w - (k + 1)) = omega arith in
-        let m : from + (k + 1) ≡ suc (from + k) = omega arith in
-        rw (n, m, drop-cons table (from + k) 0 l, drop-cons w k 0 h, add-one k, eq-eqb (get_or table (from + k) 0) (get_or w k 0) e)
-
-    pub stands_stops : k < length w → from + k < length table → (get_or table (from + k) 0 ≡ get_or w k 0 → ⊥) → left_from k ≡ false
-    unfolding same
-    stands_stops h l e =
-        let n : length w - k ≡ suc (length w - (k + 1)) = omega arith in
-        rw (n, drop-cons table (from + k) 0 l, drop-cons w k 0 h, ne_eqb (get_or table (from + k) 0) (get_or w k 0) e)
-
-    pub stands_ends : length w ≤ k → left_from k ≡ true
-    unfolding same
-    stands_ends h = let n : length w - k ≡ 0 = omega arith in rw (n, drop_of_length-le w h)
+pub compared : (table w : List ℕ) (a : ℕ) {r : Bool} → r ≡ not (pointwise eqb (mid_of a (a + length w - a) table) w)
+    → not r ≡ same (take (length w) (drop a table)) w
+compared table w a {r} e =
+    let z : a + length w - a ≡ length w = omega arith in
+    let f = rw z at e in
+    ap not f ∙ (not_not _ ∙ sym (same_is (take (length w) (drop a table)) w))
 
 -- The slot of a name of less than six bytes, and of one of more.
 module _ (w : List ℕ) {a b : ℕ} where

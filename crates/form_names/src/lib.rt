@@ -7,7 +7,8 @@ ghost use Rattle.paper.specs.Bytes.{same};
 ghost use Rattle.form_names.specs.Names.{name_number, slot_of, NamesAre};
 
 // For each of 128 slots eighteen bytes: a name, filled up with zeros to sixteen bytes, its number and its length. A const table is made anew wherever it is used: make it
-// once, and lend it. (As an array of 128 arrays it would take half a minute to check.)
+// once, and lend it. (An array of 128 arrays says the same, since a line of the text is a slot, and takes half a minute to check: docs/DECISIONS.md.)
+// No type carries the fact `NamesAre`: `number_of` and what calls it answer for any table that is lent (docs/PROMISES.md), and such a type would ask more of their callers.
 pub type Names = [u8; 2304];
 
 const NAMES: Names = *b"\
@@ -147,12 +148,6 @@ pub fn names() -> Names
     NAMES
 }
 
-fn wide(b: u8) -> usize
-    ensures { (result ≡ b) × (result < 256) }
-{
-    b as usize
-}
-
 // The slot of a name.
 fn slot(w: &[u8]) -> usize
     requires { (1 ≤ length w.now) × (length w.now ≤ 16) }
@@ -160,27 +155,12 @@ fn slot(w: &[u8]) -> usize
 {
     let size = w.len();
     if size < 6 {
-        return (5 * size + 4 * wide(w[0]) + 49 * wide(w[size - 1])) % 128;
+        return (5 * size + 4 * usize::from(w[0]) + 49 * usize::from(w[size - 1])) % 128;
     }
-    (5 * size + 4 * wide(w[0]) + 49 * wide(w[5])) % 128
+    (5 * size + 4 * usize::from(w[0]) + 49 * usize::from(w[5])) % 128
 }
 
-// This text stands in the table, from a place on.
-fn stands(names: &Names, from: usize, w: &[u8]) -> bool
-    requires { (from + 16 ≤ 2304) × (length w.now ≤ 16) }
-    ensures { 2304 ≤ length names.now → result ≡ same (take (length w.now) (drop from names.now)) w.now }
-{
-    let mut k = 0;
-    while k < w.len() {
-        if names[from + k] != w[k] {
-            return false;
-        }
-        k += 1;
-    }
-    true
-}
-
-// The number of a name.
+// The number of a name; 0, no Option, where no row has it: the tree holds this number, and specs/Names.antt: name_number is 0 there.
 pub fn number_of(names: &Names, w: &[u8]) -> usize
     ensures { NamesAre names.now → result ≡ name_number w.now }
 {
@@ -192,11 +172,11 @@ pub fn number_of(names: &Names, w: &[u8]) -> usize
         return 0;
     }
     let from = 18 * slot(w);
-    if wide(names[from + 17]) != size {
+    if usize::from(names[from + 17]) != size {
         return 0;
     }
-    if !stands(names, from, w) {
+    if &names[from..from + size] != w {
         return 0;
     }
-    wide(names[from + 16])
+    usize::from(names[from + 16])
 }

@@ -7,7 +7,9 @@ ghost use Rattle.paper.specs.Bytes.{white};
 ghost use Rattle.paper.specs.Values.{lies_from};
 ghost use Rattle.form_ranks.specs.Ranks.{rank, RanksAre};
 
+// Ranks are numbers and no enum: callers lend them, and give the lowest and the highest of a class as numbers, 255 among them, so an enum would be narrower.
 // The rank of each byte, sixteen a line. A const table is made anew wherever it is used: make it once, and lend it.
+// No type carries the fact `RanksAre`: `rank` and the scans answer for any table that is lent (docs/PROMISES.md), and such a type would ask more of their callers.
 pub type Ranks = [u8; 256];
 
 const RANKS: Ranks = *b"\
@@ -38,18 +40,16 @@ pub fn ranks() -> Ranks
 pub fn rank(ranks: &Ranks, b: u8) -> u8
     ensures { RanksAre ranks.now → result ≡ rank b }
 {
-    ranks[b as usize]
+    ranks[usize::from(b)]
 }
 
 // The rank of a byte lies from low to high.
+// (Two comparisons are as plain as `contains`.)
 pub fn ranked(ranks: &Ranks, b: u8, low: u8, high: u8) -> bool
     ensures { RanksAre ranks.now → result ≡ lies_from low high (rank b) }
 {
     let r = rank(ranks, b);
-    if r < low {
-        return false;
-    }
-    r <= high
+    low <= r && r <= high
 }
 
 pub fn is_white(ranks: &Ranks, b: u8) -> bool

@@ -15,9 +15,9 @@ use Rattle.paper.specs.Bytes.{white, text_byte, value_character, letter_or_digit
 use Rattle.paper.specs.Form.{Element}
 use Rattle.paper.specs.Computed.Reading.{Open, State, naming, blank, in_text, want, step, ended, run, stops_at}
 use Rattle.paper_grammar.specs.Stays.{Stays}
-use Rattle.form_scans.specs.Scans.{from, Scanned, to, stops, Word, end_of, Through, IsClass, Run, White, Along, Spelt, Name}
-use Rattle.form_scans.specs.declared.Scan.{Scan}
-use Rattle.form_scans.specs.declared.Scan.TheVariants.{To, StopsAt}
+use Rattle.form_scans.specs.Scans.{Scan, from, Scanned, to, stops, Word, end_of, Through, IsClass, Run, White, Along, Spelt, Name}
+use Rattle.form_scans.specs.declared.Stop.{Stop}
+use Rattle.std.specs.Prelude.{Ok, Err}
 use Rattle.form_ranks.specs.Ranks.{rank}
 use Rattle.form_ranks.proofs.Classes.{text_from, value_from, name_from, up_to_all}
 use Rattle.paper_grammar.proofs.Leads.{run_next, run_stuck}
@@ -34,11 +34,6 @@ pub from_short : (s : List ℕ) (q : State) (at : ℕ) → length s ≤ at → e
 unfolding from run
 from_short s q at h e = rw (drop_of_length-le s h, e, run)
 
--- whether a scan stopped
-unfoldable stopped : Scan → ℕ
-stopped (To p) = 0
-stopped (StopsAt n) = 1
-
 -- What is known of a scan that went on, and of one that stopped.
 pub record Reached {K A : Type 0} (s : List ℕ) (at : ℕ) (ahead : K → State) (behind : K → A → State) (p : ℕ) : Type 0 where
   pub rises : at ≤ p
@@ -47,24 +42,24 @@ pub record Reached {K A : Type 0} (s : List ℕ) (at : ℕ) (ahead : K → State
   pub runs : (k : K) → from s (ahead k) at ≡ from s (behind k got) p
 
 module _ {K A : Type 0} {s : List ℕ} {at : ℕ} {ahead : K → State} {behind : K → A → State} where
-  pub went : {p : ℕ} → at ≤ p → p ≤ length s → (a : A) → ((k : K) → from s (ahead k) at ≡ from s (behind k a) p) → Scanned s at ahead behind (To p)
+  pub went : {p : ℕ} → at ≤ p → p ≤ length s → (a : A) → ((k : K) → from s (ahead k) at ≡ from s (behind k a) p) → Scanned s at ahead behind (Ok p)
   went l h a e = to l h a e
 
-  on_to : {p : ℕ} → Scanned s at ahead behind (To p) → Reached s at ahead behind p
+  on_to : {p : ℕ} → Scanned s at ahead behind (Ok p) → Reached s at ahead behind p
   on_to (to l h a e) = record { rises = l; within = h; got = a; runs = e }
 
-  stop_of : {n : ℕ} → Scanned s at ahead behind (StopsAt n) → (k : K) → from s (ahead k) at ≡ stops_at n
+  stop_of : {n : Stop} → Scanned s at ahead behind (Err n) → (k : K) → from s (ahead k) at ≡ stops_at n.at
   stop_of (stops e) = e
 
-  pub reached : {r : Scan} {p : ℕ} → Scanned s at ahead behind r → r ≡ To p → Reached s at ahead behind p
+  pub reached : {r : Scan} {p : ℕ} → Scanned s at ahead behind r → r ≡ Ok p → Reached s at ahead behind p
   reached h e = on_to (rw e at h)
 
-  pub halted : {r : Scan} {n : ℕ} → Scanned s at ahead behind r → r ≡ StopsAt n → (k : K) → from s (ahead k) at ≡ stops_at n
+  pub halted : {r : Scan} {n : Stop} → Scanned s at ahead behind r → r ≡ Err n → (k : K) → from s (ahead k) at ≡ stops_at n.at
   halted h e = stop_of (rw e at h)
 
   -- where a part stops, the whole does
-  pub halts : {B : Type 0} {other : K → B → State} {r : Scan} {n : ℕ} → Scanned s at ahead behind r → r ≡ StopsAt n
-      → Scanned s at ahead other (StopsAt n)
+  pub halts : {B : Type 0} {other : K → B → State} {r : Scan} {n : Stop} → Scanned s at ahead behind r → r ≡ Err n
+      → Scanned s at ahead other (Err n)
   halts h e = stops (halted h e)
 
   -- what comes first may be told apart
@@ -80,8 +75,8 @@ module _ {K A : Type 0} {s : List ℕ} {at : ℕ} {ahead : K → State} {behind 
   giving f g (stops e) = stops e
 
   -- the same with the offset that it goes to
-  pub giving_at : {B : Type 0} {other : K → B → State} {r : Scan} (f : (p : ℕ) → r ≡ To p → A → B)
-      → ((k : K) (p : ℕ) (e : r ≡ To p) (a : A) → behind k a ≡ other k (f p e a)) → Scanned s at ahead behind r → Scanned s at ahead other r
+  pub giving_at : {B : Type 0} {other : K → B → State} {r : Scan} (f : (p : ℕ) → r ≡ Ok p → A → B)
+      → ((k : K) (p : ℕ) (e : r ≡ Ok p) (a : A) → behind k a ≡ other k (f p e a)) → Scanned s at ahead behind r → Scanned s at ahead other r
   giving_at f g (to {p} l h a e) = to l h (f p refl a) (λ k. e k ∙ ap (λ q. from s q p) (g k p refl a))
   giving_at f g (stops e) = stops e
 
@@ -92,7 +87,7 @@ module _ {K A : Type 0} {s : List ℕ} {at : ℕ} {ahead : K → State} {behind 
 
 -- one part after the other
 pub chain : {K A B : Type 0} {s : List ℕ} {at : ℕ} {ahead : K → State} {behind : K → A → State} {last : K → B → State} {r z : Scan} {p : ℕ}
-    → Scanned s at ahead behind r → r ≡ To p → ((a : A) → Scanned s p (λ k. behind k a) last z) → Scanned s at ahead last z
+    → Scanned s at ahead behind r → r ≡ Ok p → ((a : A) → Scanned s p (λ k. behind k a) last z) → Scanned s at ahead last z
 chain h e f = let g = reached h e in first g.rises g.runs (f g.got)
 
 -- fixed bytes
@@ -122,16 +117,15 @@ module _ (s w : List ℕ) (i p : ℕ) (q : State) where
   word_end h = rw (drop_of_length-le w h)
 
 -- what was read of fixed bytes
-pub no_to : {n p : ℕ} → StopsAt n ≡ To p → ⊥
-unfolding stopped
-no_to {n} {p} e = let z : ◌≡◌ {A = ℕ} 0 1 = ap stopped (sym e) in omega (arith, z)
+pub no_to : {n : Stop} {p : ℕ} → ◌≡◌ {A = Scan} (Err n) (Ok p) → ⊥
+no_to e = cc
 
 module _ {s w : List ℕ} {at : ℕ} where
-  pub word_to : {p : ℕ} → at ≤ p → p ≤ length s → p ≡ at + length w → ((q : State) → from s (want w q) at ≡ from s q p) → Word s at w (To p)
+  pub word_to : {p : ℕ} → at ≤ p → p ≤ length s → p ≡ at + length w → ((q : State) → from s (want w q) at ≡ from s q p) → Word s at w (Ok p)
   unfolding end_of
   word_to {p} l h g e = record { reads = to l h tt e; goes = λ m z. sym (ap end_of z) ∙ g }
 
-  pub word_stops : {n : ℕ} → ((q : State) → from s (want w q) at ≡ stops_at n) → Word s at w (StopsAt n)
+  pub word_stops : {n : Stop} → ((q : State) → from s (want w q) at ≡ stops_at n.at) → Word s at w (Err n)
   word_stops e = record { reads = stops e; goes = λ m z. absurd (no_to z) }
 
 -- bytes one after the other
@@ -152,10 +146,10 @@ want_append s v w at q = want_append-run v w q at (drop at s)
 
 -- fixed bytes, and then others
 module _ {s : List ℕ} {at : ℕ} (v w : List ℕ) where
-  pub word_halts : {r : Scan} {n : ℕ} → Word s at v r → r ≡ StopsAt n → Word s at (v ++ w) (StopsAt n)
+  pub word_halts : {r : Scan} {n : Stop} → Word s at v r → r ≡ Err n → Word s at (v ++ w) (Err n)
   word_halts h e = word_stops (λ q. want_append s v w at q ∙ halted h.reads e (want w q))
 
-  pub word_then : {r z : Scan} {p : ℕ} → Word s at v r → r ≡ To p → Word s p w z → Word s at (v ++ w) z
+  pub word_then : {r z : Scan} {p : ℕ} → Word s at v r → r ≡ Ok p → Word s p w z → Word s at (v ++ w) z
   word_then {r} {z} {p} h e g =
       let y = reached h.reads e in
       let m = h.goes p e in
@@ -177,16 +171,6 @@ and_then P s at i r f g k l u = go (dec_le i k)
 pub one_further : (P : ℕ → Type 0) (s : List ℕ) (at i : ℕ) → ((k : ℕ) → at ≤ k → k < i → P (get_or s k 0)) → P (get_or s i 0)
     → (k : ℕ) → at ≤ k → k < i + 1 → P (get_or s k 0)
 one_further P s at i f e = and_then P s at i (i + 1) f (λ k m u. let z : i ≡ k = omega (arith, m, u) in subst (λ z. P (get_or s z 0)) z e)
-
--- and four bytes in turn have it
-pub of_four : (P : ℕ → Type 0) (s : List ℕ) (at : ℕ) → P (get_or s at 0) → P (get_or s (at + 1) 0) → P (get_or s (at + 2) 0) → P (get_or s (at + 3) 0)
-    → (k : ℕ) → at ≤ k → k < at + 4 → P (get_or s k 0)
-of_four P s at a b c d k l u =
-    let none : (k : ℕ) → at ≤ k → k < at → P (get_or s k 0) = λ k l u. absurd (omega (arith, l, u)) in
-    let one = one_further P s at at none a in
-    let two = one_further P s at (at + 1) one b in
-    let three = one_further P s at (at + 2) (λ k l u. two k l (omega (arith, u))) c in
-    one_further P s at (at + 3) (λ k l u. three k l (omega (arith, u))) d k l (omega (arith, u))
 
 -- what holds up to one offset, and goes on from each to the next, holds up to another
 pub climb : (P : ℕ → Type 0) (at r : ℕ) → at ≤ r → P at → ((i : ℕ) → at ≤ i → i < r → P i → P (i + 1)) → P r

@@ -3,7 +3,7 @@ use Prim.Native.Nat.{ℕ, zero, suc, ◌+◌, ◌≤◌, ◌<◌}
 use mathlib.Core.List.{List, [], ◌∷◌, ◌++◌}
 use mathlib.Core.Option.{none, some}
 use mathlib.Core.Bool.{Bool, true, false}
-use mathlib.Core.Path.{◌≡◌, refl, sym, ap, ◌∙◌}
+use mathlib.Core.Path.{◌≡◌, refl, sym, ap, subst, ◌∙◌}
 use native.Mathlib.Decide.{dec_le}
 use native.Mathlib.Omega.{arith}
 use lib.ListN.{length, get_or, length-append}
@@ -15,9 +15,9 @@ use Rattle.paper.specs.Computed.Reading.{State, want, naming, capitals, blank, b
 use Rattle.paper.specs.Rows.{leaf, group, group_under, rows, instant_changes, every_row, name_in, name}
 use Rattle.form_names.specs.Names.{number_in, name_number, is_row}
 use Rattle.form_names.proofs.Laws.{same_number}
-use Rattle.form_scans.specs.Scans.{from, Word, Letters, Capitals, CapitalAt, end_of, Tag, Opened, opens_currency, stops}
-use Rattle.form_scans.specs.declared.Scan.{Scan}
-use Rattle.form_scans.specs.declared.Scan.TheVariants.{To, StopsAt}
+use Rattle.form_scans.specs.Scans.{Scan, from, Word, Letters, Capitals, CapitalAt, end_of, Tag, Opened, opens_currency, stops}
+use Rattle.form_scans.specs.declared.Stop.{Stop}
+use Rattle.std.specs.Prelude.{Ok, Err}
 use Rattle.paper_grammar.proofs.Tags.{same_true, close_name}
 use Rattle.paper_grammar.proofs.Stops.{open_amount}
 use Rattle.form_scans.proofs.Laws.{from_next, from_stuck, from_short, no_to, went, halts, first, via, giving, giving_at, chain}
@@ -53,30 +53,35 @@ module _ (s : List ℕ) (letters : List ℕ) (k : List ℕ → State) (at : ℕ)
       go (no l) = let h : at < length s = omega arith in from_stuck s _ at h (capital_stuck n letters k at (get_or s at 0) (c.not_there e h))
 
 -- three letters
-pub three_read : {s : List ℕ} {at : ℕ} {x y z : Bool} → CapitalAt s at x → x ≡ true → CapitalAt s (at + 1) y → y ≡ true → CapitalAt s (at + 2) z → z ≡ true
-    → Capitals s at (To (at + 3))
+pub three_read : {s : List ℕ} {at : ℕ} → ((j : ℕ) → at ≤ j → j < at + 3 → CapitalAt s j true) → Capitals s at (Ok (at + 3))
 unfolding end_of
-three_read {s} {at} c e d f g h =
+three_read {s} {at} f =
+    let one = f at (omega arith) (omega arith) in
+    let two = f (at + 1) (omega arith) (omega arith) in
+    let three = f (at + 2) (omega arith) (omega arith) in
     record {
-      reads = went (omega arith) (let (l, _) = g.there h in omega (arith, l)) (record { letters = _; three = refl })
-          (λ k. one_capital s [] k at c 1 e (at + 1) refl ∙ (one_capital s _ k (at + 1) d 0 f (at + 2) (omega arith) ∙ last_capital s _ k (at + 2) g h (at + 3) (omega arith)));
+      reads = went (omega arith) (let (l, _) = three.there refl in omega (arith, l)) (record { letters = _; three = refl })
+          (λ k. one_capital s [] k at one 1 refl (at + 1) refl ∙ (one_capital s _ k (at + 1) two 0 refl (at + 2) (omega arith) ∙ last_capital s _ k (at + 2) three refl (at + 3) (omega arith)));
       goes = λ p i. sym (ap end_of i);
     }
 
-pub first_missing : {s : List ℕ} {at : ℕ} {x : Bool} → CapitalAt s at x → x ≡ false → Capitals s at (StopsAt at)
-first_missing {s} {at} c e = record { reads = stops (λ k. no_capital s [] k at c 2 e); goes = λ p i. absurd (no_to i) }
+module _ {s : List ℕ} {at i : ℕ} (f : (j : ℕ) → at ≤ j → j < i → CapitalAt s j true) where
+  pub one_more : CapitalAt s i true → (j : ℕ) → at ≤ j → j < i + 1 → CapitalAt s j true
+  one_more c j l u = go (dec_le i j)
+    where
+      go : Dec (i ≤ j) → CapitalAt s j true
+      go (yes m) = let z : i ≡ j = omega arith in subst (λ z. CapitalAt s z true) z c
+      go (no m) = f j l (omega arith)
 
-pub second_missing : {s : List ℕ} {at : ℕ} {x y : Bool} → CapitalAt s at x → x ≡ true → CapitalAt s (at + 1) y → y ≡ false → Capitals s at (StopsAt (at + 1))
-second_missing {s} {at} c e d f =
-    record { reads = stops (λ k. one_capital s [] k at c 1 e (at + 1) refl ∙ no_capital s _ k (at + 1) d 1 f); goes = λ p i. absurd (no_to i) }
-
-pub third_missing : {s : List ℕ} {at : ℕ} {x y z : Bool} → CapitalAt s at x → x ≡ true → CapitalAt s (at + 1) y → y ≡ true → CapitalAt s (at + 2) z → z ≡ false
-    → Capitals s at (StopsAt (at + 2))
-third_missing {s} {at} c e d f g h =
-    record {
-      reads = stops (λ k. one_capital s [] k at c 1 e (at + 1) refl ∙ (one_capital s _ k (at + 1) d 0 f (at + 2) (omega arith) ∙ no_capital s _ k (at + 2) g 0 h));
-      goes = λ p i. absurd (no_to i);
-    }
+  pub one_missing : at ≤ i → i < at + 3 → CapitalAt s i false → Capitals s at (Err (record { at = i }))
+  one_missing l u c = record { reads = stops (λ k. runs k (dec_le i at) (dec_le i (at + 1))); goes = λ p e. absurd (no_to e) }
+    where
+      runs : (k : List ℕ → State) → Dec (i ≤ at) → Dec (i ≤ at + 1) → from s (capitals 2 [] k) at ≡ stops_at i
+      runs k (yes a) d = let z : at ≡ i = omega arith in rw z (no_capital s [] k i c 2 refl)
+      runs k (no a) (yes b) = one_capital s [] k at (f at (omega arith) (omega arith)) 1 refl i (omega arith) ∙ no_capital s _ k i c 1 refl
+      runs k (no a) (no b) =
+          one_capital s [] k at (f at (omega arith) (omega arith)) 1 refl (at + 1) refl
+          ∙ (one_capital s _ k (at + 1) (f (at + 1) (omega arith) (omega arith)) 0 refl i (omega arith) ∙ no_capital s _ k i c 0 refl)
 
 -- the currency: what stands before it, its letters, what stands behind it
 amount_long : (letters : List ℕ) → length letters ≡ 3 → length (amount_tag letters) ≡ 20
@@ -98,17 +103,17 @@ amount_tagged depth lt end l e = record {
 }
 
 module _ (s : List ℕ) (depth lt : ℕ) where
-  pub currency_stops : (at n : ℕ) {r : Scan} → Word s at (bytes "Ccy=\"") r → r ≡ StopsAt n
-      → Opened s at (bytes "InstdAmt") depth lt (opens_currency depth lt) (StopsAt n)
+  pub currency_stops : (at : ℕ) {n : Stop} {r : Scan} → Word s at (bytes "Ccy=\"") r → r ≡ Err n
+      → Opened s at (bytes "InstdAmt") depth lt (opens_currency depth lt) (Err n)
   unfolding opens_currency
-  currency_stops at n h e = halts (via (λ k. capitals 2 [] (in_amount depth lt k)) h.reads) e
+  currency_stops at h e = halts (via (λ k. capitals 2 [] (in_amount depth lt k)) h.reads) e
 
-  pub letters_stop : (at p n : ℕ) {r z : Scan} → Word s at (bytes "Ccy=\"") r → r ≡ To p → Capitals s p z → z ≡ StopsAt n
-      → Opened s at (bytes "InstdAmt") depth lt (opens_currency depth lt) (StopsAt n)
+  pub letters_stop : (at p : ℕ) {n : Stop} {r z : Scan} → Word s at (bytes "Ccy=\"") r → r ≡ Ok p → Capitals s p z → z ≡ Err n
+      → Opened s at (bytes "InstdAmt") depth lt (opens_currency depth lt) (Err n)
   unfolding opens_currency
-  letters_stop at p n h e g f = chain (via (λ k. capitals 2 [] (in_amount depth lt k)) h.reads) e (λ _. halts (via (λ k. in_amount depth lt k) g.reads) f)
+  letters_stop at p h e g f = chain (via (λ k. capitals 2 [] (in_amount depth lt k)) h.reads) e (λ _. halts (via (λ k. in_amount depth lt k) g.reads) f)
 
-  pub currency_read : (at p q : ℕ) → at ≡ lt + 10 → {r y z : Scan} → Word s at (bytes "Ccy=\"") r → r ≡ To p → Capitals s p y → y ≡ To q
+  pub currency_read : (at p q : ℕ) → at ≡ lt + 10 → {r y z : Scan} → Word s at (bytes "Ccy=\"") r → r ≡ Ok p → Capitals s p y → y ≡ Ok q
       → Word s q (bytes "\">") z → Opened s at (bytes "InstdAmt") depth lt (opens_currency depth lt) z
   unfolding opens_currency in_amount amount_tagged end_of bytes want
   currency_read at p q l {z = z} h e g f i =
@@ -137,10 +142,10 @@ name_stuck depth lt name (suc room) k at b e f g = rw e (named_stuck depth lt na
 
 module _ (s name : List ℕ) (depth lt room at : ℕ) (h : at < length s) where
   pub tag_stops : letter_or_digit (get_or s at 0) ≡ false → (get_or s at 0 ≡ 62 → same name (bytes "InstdAmt") ≡ true)
-      → (get_or s at 0 ≡ 32 → same name (bytes "InstdAmt") ≡ false) → Opened s at name depth lt (naming depth lt name room) (StopsAt at)
+      → (get_or s at 0 ≡ 32 → same name (bytes "InstdAmt") ≡ false) → Opened s at name depth lt (naming depth lt name room) (Err (record { at = at }))
   tag_stops e f g = stops (λ k. from_stuck s _ at h (name_stuck depth lt name room k at (get_or s at 0) e f g))
 
-  pub tag_closes : at ≡ lt + 1 + length name → get_or s at 0 ≡ 62 → same name (bytes "InstdAmt") ≡ false → Opened s at name depth lt (naming depth lt name room) (To (at + 1))
+  pub tag_closes : at ≡ lt + 1 + length name → get_or s at 0 ≡ 62 → same name (bytes "InstdAmt") ≡ false → Opened s at name depth lt (naming depth lt name room) (Ok (at + 1))
   unfolding end_of
   tag_closes g z e =
       let o : Tag name depth lt (at + 1) = record {

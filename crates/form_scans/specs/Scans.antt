@@ -1,13 +1,16 @@
 -- What the functions of `form_scans` say: how the machine of `paper` runs on from where they begin to where they end.
-use Rattle.std.specs.Prelude.{ℕ, ◌+◌, ◌-◌, ◌≤◌, ◌<◌, List, [], ◌∷◌, Bool, true, false, ◌≡◌, length, get_or, take, drop}
+use Rattle.std.specs.Prelude.{ℕ, ◌+◌, ◌-◌, ◌≤◌, ◌<◌, List, [], ◌∷◌, Bool, true, false, ◌≡◌, length, get_or, take, drop, Result, Ok, Err}
 use Rattle.paper.specs.Bytes.{bytes, white, text_byte, value_character, capital, letter_or_digit}
 use Rattle.paper.specs.Form.{Element}
 use Rattle.paper.specs.Computed.Reading.{Open, State, want, blank, in_text, naming, capitals, in_amount, run, Reading, stops_at}
-use Rattle.form_scans.specs.declared.Scan.{Scan}
-use Rattle.form_scans.specs.declared.Scan.TheVariants.{To, StopsAt}
+use Rattle.form_scans.specs.declared.Stop.{Stop}
 use Rattle.paper_grammar.specs.Stays.{Stays}
 use Rattle.paper.specs.Values.{lies_from}
 use Rattle.form_ranks.specs.Ranks.{rank}
+
+-- A part was read to an offset, or the message stops at one.
+abbrev pub Scan : Type 0
+Scan = Result ℕ Stop
 
 -- the machine in a state, with the rest of the text from an offset on
 unfoldable pub from : List ℕ → State → ℕ → Reading
@@ -15,18 +18,18 @@ from s q at = run q at (drop at s)
 
 -- Whatever is to come (`k`), the machine goes from the state before to the state behind, with what was read in between, or stops.
 pub data Scanned {K A : Type 0} (s : List ℕ) (at : ℕ) (ahead : K → State) (behind : K → A → State) : Scan → Type 0 where
-  to : {p : ℕ} → at ≤ p → p ≤ length s → (a : A) → ((k : K) → from s (ahead k) at ≡ from s (behind k a) p) → Scanned s at ahead behind (To p)
-  stops : {n : ℕ} → ((k : K) → from s (ahead k) at ≡ stops_at n) → Scanned s at ahead behind (StopsAt n)
+  to : {p : ℕ} → at ≤ p → p ≤ length s → (a : A) → ((k : K) → from s (ahead k) at ≡ from s (behind k a) p) → Scanned s at ahead behind (Ok p)
+  stops : {n : Stop} → ((k : K) → from s (ahead k) at ≡ stops_at n.at) → Scanned s at ahead behind (Err n)
 
 -- these very bytes
 pub record Word (s : List ℕ) (at : ℕ) (w : List ℕ) (r : Scan) : Type 0 where
   pub reads : Scanned {A = Unit {0}} s at (λ q. want w q) (λ q _. q) r
-  pub goes : (p : ℕ) → r ≡ To p → p ≡ at + length w
+  pub goes : (p : ℕ) → r ≡ Ok p → p ≡ at + length w
 
 -- the offset that a scan has come to
 unfoldable pub end_of : Scan → ℕ
-end_of (To p) = p
-end_of (StopsAt n) = n
+end_of (Ok p) = p
+end_of (Err n) = n.at
 
 -- a start tag of a name, for an element of a depth whose `<` stands at an offset, up to another
 pub record Tag (name : List ℕ) (depth lt end : ℕ) : Type 0 where
@@ -93,7 +96,7 @@ pub record Letters : Type 0 where
 
 pub record Capitals (s : List ℕ) (at : ℕ) (r : Scan) : Type 0 where
   pub reads : Scanned s at (λ k. capitals 2 [] k) (λ k (l : Letters). k l.letters) r
-  pub goes : (p : ℕ) → r ≡ To p → p ≡ at + 3
+  pub goes : (p : ℕ) → r ≡ Ok p → p ≡ at + 3
 
 -- behind `<InstdAmt ` of an element of a depth, whose `<` stands at an offset
 unfoldable pub opens_currency : (depth lt : ℕ) → (Element → State) → State

@@ -1,12 +1,16 @@
 -- The table as bytes, and what is answered of it.
-use Prim.Native.Nat.{ℕ, zero, suc, ◌+◌, ◌*◌, ◌/◌, ◌≤◌, ◌<◌}
+use Rattle.std.specs.Prelude.{Result, Ok, Err}
+use Rattle.std.specs.Int.{to_be_bytes, w32}
+use Prim.Native.Nat.{ℕ, ◌+◌, ◌*◌, ◌-◌, ◌/◌, ◌%◌, ◌≤◌, ◌<◌}
+use native.Mathlib.Nat.{mod-eq_of_lt}
 use native.Mathlib.Omega.{arith}
 use native.Mathlib.Numerals.{add-one}
-use mathlib.Core.List.{List, [], ◌∷◌, ◌++◌, append_assoc}
+use mathlib.Core.List.{List, ◌++◌}
 use mathlib.Core.Path.{◌≡◌, refl, sym, ap, ◌∙◌, subst}
 use borrow.Author.Tests.{lt-ltb, eqb-false}
-use lib.ListN.{length, get_or, set, take, drop, length-append, length-set}
-use lib.Seq.{length-take-le, take_at, take-suc, drop-append-add, drop-drop}
+use borrow.Rule.Slice.PartMut.{put_mid}
+use lib.ListN.{length, get_or, take, drop, length-append}
+use lib.Seq.{length-take-le, take_at, take-suc}
 use Rattle.paper.specs.Sizes.{numbers_per_payment, least_table}
 use Rattle.paper.specs.Bytes.{each}
 use Rattle.paper.specs.Rows.{Profile}
@@ -18,12 +22,12 @@ use Rattle.paper.specs.Host.{profile_numbered, four_bytes, numbers_held, bytes_a
 use Rattle.paper.specs.Answers.{refusal_of, numbered, verdict_says}
 use Rattle.paper.specs.declared.Fault.{Fault}
 use Rattle.paper.specs.declared.Fault.TheVariants.{TableTooShort}
-use Rattle.paper.specs.declared.Verdict.{Verdict}
-use Rattle.paper.specs.declared.Verdict.TheVariants.{Accepted, Refused}
+use Rattle.paper.specs.declared.Accepted.{Accepted}
 use Rattle.paper.proofs.Laws.{each_more, each_length}
 use Rattle.verdict_answers.specs.Numbers.{as_answer}
 use Rattle.verdict_answers.specs.declared.OfMessage.{OfMessage}
 use Rattle.verdict_table.proofs.Numbers.{all_numbers_length}
+use Rattle.verdict_table.proofs.Filling.{one_row}
 use Rattle.paper_acceptance.proofs.Proper.{numbered_proper}
 use Rattle.verdict_reader.specs.Promises.{VerdictPromise}
 use Rattle.verdict_reader.proofs.Verdicts.{long_enough}
@@ -31,31 +35,10 @@ use Rattle.verdict_reader.proofs.Agreement.{Filled, accepted_fills}
 use Rattle.verdict_answers.proofs.Agreement.{no_zero}
 use Rattle.host.specs.Promises.{HostVerdictPromise}
 
--- room for four bytes at a place, and for those after what was put
-module _ (t : List ℕ) (at a b c : ℕ) (h : at + 4 ≤ length t) where
-  pub room_1 : at + 1 < length (set t at a)
-  room_1 = omega (arith, h, length-set t at a)
-
-  pub room_2 : at + 2 < length (set (set t at a) (at + 1) b)
-  room_2 = omega (arith, h, length-set t at a, length-set (set t at a) (at + 1) b)
-
-  pub room_3 : at + 3 < length (set (set (set t at a) (at + 1) b) (at + 2) c)
-  room_3 = omega (arith, h, length-set t at a, length-set (set t at a) (at + 1) b, length-set (set (set t at a) (at + 1) b) (at + 2) c)
-
--- four bytes put one after the other
-pub four_put : (t : List ℕ) (at a b c d : ℕ) → at + 4 ≤ length t
-    → set (set (set (set t at a) (at + 1) b) (at + 2) c) (at + 3) d ≡ take at t ++ (a ∷ b ∷ c ∷ d ∷ drop (at + 4) t)
-four_put [] at a b c d h = absurd (omega (arith, h))
-four_put (x ∷ []) zero a b c d h = absurd (omega (arith, h))
-four_put (x ∷ y ∷ []) zero a b c d h = absurd (omega (arith, h))
-four_put (x ∷ y ∷ z ∷ []) zero a b c d h = absurd (omega (arith, h))
-four_put (x ∷ y ∷ z ∷ w ∷ t) zero a b c d h = refl
-four_put (x ∷ t) (suc at) a b c d h =
-    let e1 : suc at + 1 ≡ suc (at + 1) = omega arith in
-    let e2 : suc at + 2 ≡ suc (at + 2) = omega arith in
-    let e3 : suc at + 3 ≡ suc (at + 3) = omega arith in
-    let e4 : suc at + 4 ≡ suc (at + 4) = omega arith in
-    rw (e1, e2, e3, e4) (ap (λ (l : List ℕ). x ∷ l) (four_put t at a b c d (omega (arith, h))))
+-- the bytes of a number, the highest first
+pub high_first : (n : ℕ) → n < 4294967296 → to_be_bytes w32 n ≡ four_bytes n
+unfolding four_bytes
+high_first n h = let e : n / 16777216 % 256 ≡ n / 16777216 = mod-eq_of_lt (omega (arith, h)) in rw e refl
 
 -- how long numbers are as bytes
 pub four_length : (ns : List ℕ) → length (each four_bytes ns) ≡ 4 * length ns
@@ -70,86 +53,77 @@ pub none_written : (numbers old : List ℕ) → Written numbers old 0 old
 unfolding each
 none_written numbers old = refl
 
-module _ (numbers old : List ℕ) (i : ℕ) {table : List ℕ} (l : i < length numbers) (h : length table ≡ length old) (w : Written numbers old i table) where
-  pub one_written : {after : List ℕ} → 4 * (i + 1) ≤ length old
-      → (4 * i + 4 ≤ length table → after ≡ take (4 * i) table ++ (four_bytes (get_or numbers i 0) ++ drop (4 * i + 4) table)) → Written numbers old (i + 1) after
-  one_written r p =
-      let n = get_or numbers i 0 in
-      let four_more : 4 * i + 4 ≡ 4 * (i + 1) = omega arith in
-      let front = each four_bytes (take i numbers) in
-      let front_length : length front ≡ 4 * i = four_length (take i numbers) ∙ ap (λ (n : ℕ). 4 * n) (length-take-le i numbers (omega (arith, l))) in
-      let a : take (4 * i) table ≡ front = ap (take (4 * i)) w ∙ take_at front (drop (4 * i) old) (4 * i) front_length in
-      let b : drop (4 * i + 4) table ≡ drop (4 * (i + 1)) old =
-      ap (drop (4 * i + 4)) w ∙ ap (λ (m : ℕ). drop (m + 4) (front ++ drop (4 * i) old)) (sym front_length) ∙ drop-append-add front (drop (4 * i) old) 4 ∙ drop-drop 4 (4 * i) old ∙
-      ap (λ (m : ℕ). drop m old) four_more in
-      let c : each four_bytes (take (i + 1) numbers) ≡ front ++ four_bytes n =
-      rw add-one (ap (λ (w : List ℕ). each four_bytes w) (take-suc numbers i 0 l)) ∙ each_more four_bytes (take i numbers) n in
-      p (omega (arith, r, h)) ∙ rw (a, b, c) (sym (append_assoc front (four_bytes n) (drop (4 * (i + 1)) old)))
-
-pub all_written : (numbers old : List ℕ) (i many : ℕ) {table : List ℕ} → i ≡ many → Written numbers old i table → Written numbers old many table
-all_written numbers old i many {table} e w = subst (λ (n : ℕ). Written numbers old n table) e w
+-- one more number written, over four bytes
+pub one_written : (numbers old : List ℕ) (i : ℕ) {table bytes : List ℕ} → i < length numbers → Written numbers old i table → bytes ≡ four_bytes (get_or numbers i 0)
+    → Written numbers old (i + 1) (put_mid (4 * i) (4 * i + 4 - 4 * i) table bytes)
+one_written numbers old i l w is =
+    let n = get_or numbers i 0 in
+    let front = each four_bytes (take i numbers) in
+    let front_length : length front ≡ 4 * i = four_length (take i numbers) ∙ ap (λ (n : ℕ). 4 * n) (length-take-le i numbers (omega (arith, l))) in
+    let four_more : 4 * i + 4 ≡ 4 * (i + 1) = omega arith in
+    let more : each four_bytes (take (i + 1) numbers) ≡ front ++ four_bytes n =
+    rw add-one (ap (λ (w : List ℕ). each four_bytes w) (take-suc numbers i 0 l)) ∙ each_more four_bytes (take i numbers) n in
+    rw is (one_row front (four_bytes n) old (4 * i) 4 front_length w ∙ rw (more, four_more) refl)
 
 -- the table's bytes and its numbers
 held_long : (table : List ℕ) → 4 * least_table ≤ length table → least_table ≤ numbers_held table
 unfolding numbers_held
 held_long table h = omega (arith, h)
 
-told : {profile archived : ℕ} (s before after : List ℕ) (v : Verdict) {r : OfMessage} → as_answer r ≡ verdict_says v → verdict_says v ≡ answer_to (outcome (profile_numbered profile archived) (numbers_held before) s)
+told : {profile archived : ℕ} (s before after : List ℕ) (v : Result Accepted Fault) {r : OfMessage} → as_answer r ≡ verdict_says v → verdict_says v ≡ answer_to (outcome (profile_numbered profile archived) (numbers_held before) s)
     → after ≡ bytes_after (outcome (profile_numbered profile archived) (numbers_held before) s) before → HostVerdictPromise profile archived s before r after
 unfolding verdict
 told s before after v e a t = record { answer_is = e ∙ a; table_is = t }
 
-pub too_short : (profile archived : ℕ) (s before : List ℕ) {r : OfMessage} → length before < 4 * least_table → as_answer r ≡ verdict_says (Refused TableTooShort) → HostVerdictPromise profile archived s before r before
+pub too_short : (profile archived : ℕ) (s before : List ℕ) {r : OfMessage} → length before < 4 * least_table → as_answer r ≡ verdict_says (Err TableTooShort) → HostVerdictPromise profile archived s before r before
 unfolding outcome table_refusal refuse unless_refused answer_to verdict_says refusal_of numbered bytes_after over written each numbers_held
 too_short profile archived s before h e =
     let l : length before / 4 < least_table = omega (arith, h) in
-    told {profile = profile} {archived = archived} s before before (Refused TableTooShort) e (rw (lt-ltb (length before / 4) least_table l)) (rw (lt-ltb (length before / 4) least_table l))
+    told {profile = profile} {archived = archived} s before before (Err TableTooShort) e (rw (lt-ltb (length before / 4) least_table l)) (rw (lt-ltb (length before / 4) least_table l))
 
 -- what the reader answered with the least table of its own
-module _ (profile archived : ℕ) (s before : List ℕ) {own filled : List ℕ} {v : Verdict} (h : 4 * least_table ≤ length before) (long : length own ≡ least_table)
+module _ (profile archived : ℕ) (s before : List ℕ) {own filled : List ℕ} {v : Result Accepted Fault} (h : 4 * least_table ≤ length before) (long : length own ≡ least_table)
     (a : VerdictPromise (profile_numbered profile archived) s own v filled) where
   as_own : outcome (profile_numbered profile archived) (numbers_held before) s ≡ outcome (profile_numbered profile archived) (length own) s
   as_own = long_enough (profile_numbered profile archived) s (numbers_held before) (held_long before h) ∙ sym (long_enough (profile_numbered profile archived) s (length own) (omega (arith, long)))
 
-  pub refused-bytes : {f : Fault} {r : OfMessage} → v ≡ Refused f → as_answer r ≡ verdict_says (Refused f) → HostVerdictPromise profile archived s before r before
+  pub refused-bytes : {f : Fault} {r : OfMessage} → v ≡ Err f → as_answer r ≡ verdict_says v → HostVerdictPromise profile archived s before r before
   unfolding verdict answer_to verdict_says refused accepted bytes_after over written each
   refused-bytes {f} {r} e q = go (outcome (profile_numbered profile archived) (numbers_held before) s) refl
     where
       go : (o : Outcome) → outcome (profile_numbered profile archived) (numbers_held before) s ≡ o → HostVerdictPromise profile archived s before r before
-      go (refused_as x) p = told s before before (Refused f) q (sym (ap verdict_says e) ∙ a.answer_is ∙ ap answer_to (sym as_own)) (rw p)
+      go (refused_as x) p = told s before before v q (a.answer_is ∙ ap answer_to (sym as_own)) (rw p)
       go (accepted_with root) p =
           let t : refused (refusal_of f) ≡ answer_to (accepted_with root) = sym (ap verdict_says e) ∙ a.answer_is ∙ ap answer_to (sym as_own ∙ p) in
           absurd (eqb-false (refusal_of f).number 0 (no_zero f) (ap (λ (m : MessageAnswer). m.number) t))
 
   -- where it accepted, its table starts with all the payments' numbers
-  module _ {b p c : ℕ} (e : v ≡ Accepted b p c) where
-    numbered_by : Filled (profile_numbered profile archived) s own filled b p c
-    numbered_by = accepted_fills (numbered_proper profile archived) (subst (λ (w : Verdict). VerdictPromise (profile_numbered profile archived) s own w filled) e a)
+  module _ {of : Accepted} (e : v ≡ Ok of) where
+    numbered_by : Filled (profile_numbered profile archived) s own filled of.blocks of.payments of.cents
+    numbered_by = accepted_fills (numbered_proper profile archived) (subst (λ (w : Result Accepted Fault). VerdictPromise (profile_numbered profile archived) s own w filled) e a)
 
-    pub room : length filled ≡ least_table → numbers_per_payment * p ≤ least_table
+    pub room : length filled ≡ least_table → numbers_per_payment * of.payments ≤ least_table
     unfolding over table_after written
     room l =
         let n = numbered_by in
         let ns = each numbers_of (payments n.root) in
         omega (arith, l, ap length n.table_is, length-append ns (drop (length ns) own), all_numbers_length (payments n.root), n.payments_are)
 
-    pub accepted-bytes : {r : OfMessage} {after : List ℕ} → length filled ≡ least_table → as_answer r ≡ verdict_says (Accepted b p c)
-        → (numbers_per_payment * p ≤ length filled → 4 * (numbers_per_payment * p) ≤ length before
-        → after ≡ each four_bytes (take (numbers_per_payment * p) filled) ++ drop (4 * (numbers_per_payment * p)) before) → HostVerdictPromise profile archived s before r after
-    unfolding verdict bytes_after table_after over written
-    accepted-bytes {r} {after} l q w =
+    pub accepted-bytes : {r : OfMessage} {after : List ℕ} → as_answer r ≡ verdict_says v
+        → after ≡ each four_bytes (take (numbers_per_payment * of.payments) filled) ++ drop (4 * length (take (numbers_per_payment * of.payments) filled)) before
+        → HostVerdictPromise profile archived s before r after
+    unfolding verdict answer_to bytes_after table_after over written
+    accepted-bytes {after = after} q w =
         let n = numbered_by in
         let ns = each numbers_of (payments n.root) in
-        let few = room l in
-        let many : length ns ≡ numbers_per_payment * p = all_numbers_length (payments n.root) ∙ ap (λ (m : ℕ). numbers_per_payment * m) (sym n.payments_are) in
-        let x : take (numbers_per_payment * p) filled ≡ ns = ap (take (numbers_per_payment * p)) n.table_is ∙ take_at ns (drop (length ns) own) (numbers_per_payment * p) many in
-        let y : 4 * (numbers_per_payment * p) ≡ length (each four_bytes ns) = ap (λ (m : ℕ). 4 * m) (sym many) ∙ sym (four_length ns) in
+        let many : length ns ≡ numbers_per_payment * of.payments = all_numbers_length (payments n.root) ∙ ap (λ (m : ℕ). numbers_per_payment * m) (sym n.payments_are) in
+        let x : take (numbers_per_payment * of.payments) filled ≡ ns = ap (take (numbers_per_payment * of.payments)) n.table_is ∙ take_at ns (drop (length ns) own) (numbers_per_payment * of.payments) many in
         let o : outcome (profile_numbered profile archived) (numbers_held before) s ≡ accepted_with n.root = as_own ∙ n.outcome_is in
-        told s before after (Accepted b p c) q (sym (ap verdict_says e) ∙ a.answer_is ∙ ap answer_to (sym as_own))
-        (w (omega (arith, few, l)) (omega (arith, few, h)) ∙ rw (o, x) (ap (λ (m : ℕ). each four_bytes ns ++ drop m before) y))
+        told s before after v q (a.answer_is ∙ ap answer_to (sym as_own))
+        (w ∙ rw (x, o) (ap (λ (m : ℕ). each four_bytes ns ++ drop m before) (sym (four_length ns))))
 
 -- what is promised in a profile is promised in the one that its number names
-pub in_profile : (profile archived : ℕ) {named : Profile} {s own filled : List ℕ} {v : Verdict} → named ≡ profile_numbered profile archived → VerdictPromise named s own v filled
+pub in_profile : (profile archived : ℕ) {named : Profile} {s own filled : List ℕ} {v : Result Accepted Fault} → named ≡ profile_numbered profile archived → VerdictPromise named s own v filled
     → VerdictPromise (profile_numbered profile archived) s own v filled
 in_profile profile archived {s = s} {own} {filled} {v} e a = subst (λ (p : Profile). VerdictPromise p s own v filled) e a
 

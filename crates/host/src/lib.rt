@@ -1,13 +1,13 @@
 // The two functions that the payment host calls, over lent bytes; include/glowenzo.h says them to C.
 #![tactic(auto)]
 
-ghost use Rattle.std.specs.Prelude.{◌≡◌, ◌++◌, ◌+◌, ◌*◌, ◌≤◌, length, take, drop};
+ghost use Rattle.std.specs.Prelude.{◌≡◌, ◌++◌, ◌*◌, ◌≤◌, length, drop};
 ghost use Rattle.paper.specs.Bytes.{each};
 ghost use Rattle.paper.specs.Host.{profile_numbered, four_bytes};
 ghost use Rattle.paper.specs.Answers.{profile_named};
 ghost use Rattle.host.specs.Promises.{HostVerdictPromise, HostRegroupPromise};
 
-use paper::{Fault, Profile, Verdict};
+use paper::{Fault, Profile};
 use verdict_answers::{OfMessage, OfRegrouping};
 
 // The bytes of the least table.
@@ -23,34 +23,13 @@ fn profile_of(profile: u64, archived: u64) -> Profile
     }
 }
 
-// A number as four bytes at a place of the table, where it has them.
-fn put(table: &mut [u8], at: usize, n: u32)
-    ensures { at + 4 ≤ length table.old → table.new ≡ take at table.old ++ (four_bytes n ++ drop (at + 4) table.old) }
+// The numbers, each as four bytes, from the table's start on; every later byte stays.
+fn write(numbers: &[u32], table: &mut [u8])
+    requires { 4 * length numbers.now ≤ length table.old }
+    ensures { table.new ≡ each four_bytes numbers.now ++ drop (4 * length numbers.now) table.old }
 {
-    if table.len() < 4 {
-        return;
-    }
-    if table.len() - 4 < at {
-        return;
-    }
-    table[at] = (n / 16777216) as u8;
-    table[at + 1] = (n / 65536 % 256) as u8;
-    table[at + 2] = (n / 256 % 256) as u8;
-    table[at + 3] = (n % 256) as u8;
-}
-
-// So many numbers from the table's start on; every later byte stays.
-fn write(numbers: &[u32], many: usize, table: &mut [u8])
-    ensures { many ≤ length numbers.now → 4 * many ≤ length table.old
-        → table.new ≡ each four_bytes (take many numbers.now) ++ drop (4 * many) table.old }
-{
-    let mut i = 0;
-    while i < many {
-        if numbers.len() <= i {
-            return;
-        }
-        put(table, 4 * i, numbers[i]);
-        i += 1;
+    for (i, n) in numbers.iter().enumerate() {
+        table[4 * i..4 * i + 4].copy_from_slice(&n.to_be_bytes());
     }
 }
 
@@ -65,25 +44,17 @@ pub extern "C" fn glowenzo_verdict(
     ensures { HostVerdictPromise profile archived message.now table.old result table.new }
 {
     if table.len() < LEAST_BYTES {
-        return verdict_answers::of_message(Verdict::Refused(Fault::TableTooShort));
+        return OfMessage::from(Err(Fault::TableTooShort));
     }
     let mut numbers = [0u32; paper::LEAST_TABLE];
-    let found = verdict_reader::verdict(profile_of(profile, archived), message, &mut numbers);
-    match found {
-        Verdict::Refused(fault) => verdict_answers::of_message(Verdict::Refused(fault)),
-        Verdict::Accepted {
-            blocks,
-            payments,
-            cents,
-        } => {
-            write(&numbers, paper::NUMBERS_PER_PAYMENT * payments, table);
-            verdict_answers::of_message(Verdict::Accepted {
-                blocks,
-                payments,
-                cents,
-            })
-        }
+    let verdict = verdict_reader::verdict(profile_of(profile, archived), message, &mut numbers);
+    if let Ok(accepted) = verdict {
+        write(
+            &numbers[..paper::NUMBERS_PER_PAYMENT * accepted.payments],
+            table,
+        );
     }
+    OfMessage::from(verdict)
 }
 
 // Whether one message regroups another by a list, both in the profile that a number names, the first perhaps archived.
@@ -98,5 +69,5 @@ pub extern "C" fn glowenzo_regroup(
     ensures { HostRegroupPromise profile archived first.now second.now list.now result }
 {
     let found = move_regrouping::regroup(profile_of(profile, archived), first, second, list);
-    verdict_answers::of_regrouping(found)
+    OfRegrouping::from(found)
 }

@@ -1,9 +1,9 @@
 -- A country by its letters and the whole length.
 use Rattle.std.specs.Prelude.{if◌then◌else◌}
 use Prim.Native.Nat.{ℕ}
-use mathlib.Core.Path.{◌≡◌, refl, ap}
+use mathlib.Core.Path.{◌≡◌, refl}
 use mathlib.Core.List.{List, [], ◌∷◌, ◌++◌}
-use mathlib.Core.Bool.{Bool, true, false, ◌&&◌, ◌||◌, or-false}
+use mathlib.Core.Bool.{Bool, true, false, ◌&&◌, ◌||◌}
 use lib.ListN.{length, take}
 use lib.Dec.{eqb}
 use Rattle.paper.specs.Bytes.{same}
@@ -28,11 +28,3 @@ of_a_country_is (c ∷ cs) w = rw (of_a_country_is cs w, same_swap c.letters (ta
     by true false e = rw e
     by false true e = refl
     by false false e = refl
-
-pub only_text : (t v : List ℕ) → among_texts t (v ∷ []) ≡ same t v
-unfolding among_texts
-only_text t v = or-false (same t v)
-
-pub either_text : (t v u : List ℕ) → among_texts t (v ∷ u ∷ []) ≡ (same t v || same t u)
-unfolding among_texts
-either_text t v u = ap (λ (b : Bool). same t v || b) (or-false (same t u))

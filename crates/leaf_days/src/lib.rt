@@ -4,31 +4,25 @@
 ghost use Rattle.std.specs.Prelude.{◌≡◌, ◌||◌};
 ghost use Rattle.paper.specs.Values.{days_in, true_day, date, date_and_time, shaped, zone, date_time_zone};
 
+#[tactic(auto, unfolding(paper::specs::Values::days_in, paper::specs::Values::among))]
 fn days_in(year: u64, month: u64) -> u64
     ensures { result ≡ days_in year month }
 {
-    if month == 2 {
-        if year % 4 == 0 {
-            return 29;
-        }
-        return 28;
-    }
     match month {
+        2 if year % 4 == 0 => 29,
+        2 => 28,
         4 | 6 | 9 | 11 => 30,
         _ => 31,
     }
 }
 
+#[tactic(auto, unfolding(paper::specs::Values::true_day))]
 fn true_day(year: u64, month: u64, day: u64) -> bool
     ensures { result ≡ true_day year month day }
 {
-    if !leaf_numbers::lies_from(2000, 2099, year) {
-        return false;
-    }
-    if !leaf_numbers::lies_from(1, 12, month) {
-        return false;
-    }
-    leaf_numbers::lies_from(1, days_in(year, month), day)
+    leaf_numbers::lies_from(2000, 2099, year)
+        && leaf_numbers::lies_from(1, 12, month)
+        && leaf_numbers::lies_from(1, days_in(year, month), day)
 }
 
 // Row 23: `YYYY-MM-DD`, a true day of the years 2000 to 2099.
@@ -64,13 +58,11 @@ pub fn date_and_time(s: &[u8]) -> bool
 }
 
 // A sign and `hh:mm`.
+#[tactic(auto, using(leaf_texts::proofs::Laws::shaped_is), unfolding(paper::specs::Bytes::bytes))]
 fn signed(s: &[u8]) -> bool
     ensures { result ≡ (shaped "+00:00" s.now || shaped "-00:00" s.now) }
 {
-    if leaf_texts::shaped(b"+00:00", s) {
-        return true;
-    }
-    leaf_texts::shaped(b"-00:00", s)
+    leaf_texts::shaped(b"+00:00", s) || leaf_texts::shaped(b"-00:00", s)
 }
 
 // `Z`, or a sign and `hh:mm` from 00:00 to 14:00.
@@ -85,21 +77,13 @@ fn zone(s: &[u8]) -> bool
     }
     let hours = leaf_numbers::number(&s[1..3]);
     let minutes = leaf_numbers::number(&s[4..6]);
-    if 59 < minutes {
-        return false;
-    }
-    hours * 60 + minutes <= 14 * 60
+    minutes <= 59 && hours * 60 + minutes <= 14 * 60
 }
 
 // Row 58: a date and time as in row 5, then its zone: `Z`, or a sign and `hh:mm` from 00:00 to 14:00.
 pub fn date_time_zone(s: &[u8]) -> bool
     ensures { result ≡ date_time_zone s.now }
 {
-    if s.len() < 19 {
-        return false;
-    }
-    if !date_and_time(&s[0..19]) {
-        return false;
-    }
-    zone(&s[19..])
+    s.split_at_checked(19)
+        .is_some_and(|(time, rest)| date_and_time(time) && zone(rest))
 }

@@ -12,10 +12,10 @@ use Rattle.paper.specs.Bytes.{bytes, from_to, digit, every, same}
 use Rattle.paper.specs.Values.{number_after, number, digits, before_point, behind_point, money, cents}
 use Rattle.paper.proofs.Laws.{both_left, both_right}
 use Rattle.leaf_texts.proofs.Laws.{same_is, pairwise-same-length}
-use Rattle.leaf_money.proofs.Cents.{no_point, in_cents-number}
+use Rattle.leaf_money.proofs.Cents.{no_point, in_cents-number, count_is}
 use Rattle.leaf_numbers.proofs.Laws.{digits_most, digits-digits}
-use Rattle.leaf_numbers.specs.Readings.{in_cents}
-use Rattle.leaf_numbers.specs.declared.Reading.TheVariants.{Number}
+use Rattle.leaf_numbers.specs.Readings.{as_count, in_cents}
+use Rattle.std.specs.Prelude.{Some}
 
 digit_worth : (b : ℕ) → digit b ≡ true → b - 48 ≤ 9
 unfolding digit from_to
@@ -82,8 +82,14 @@ cents_below w e =
 
 -- What the code reads as cents is that number.
 pub reading_is :
-    (w : List ℕ) (n : ℕ) → in_cents w ≡ Number n →
+    (w : List ℕ) (n : ℕ) → in_cents w ≡ Some n →
     (n ≡ 100 * number (before_point w) + number (take 2 (behind_point w ++ bytes "00"))) × (n < 10 ^ 17)
 reading_is w n e =
     let m = in_cents-number w n e in
     (sym m.1 ∙ cents_are w, subst (λ (k : ℕ). k < 10 ^ 17) m.1 (cents_below w m.0))
+
+-- a count that is read lies below 10^15
+pub count_below : (w : List ℕ) (n : ℕ) → as_count w ≡ Some n → n < 10 ^ 15
+count_below w n e =
+    let m = count_is w n e in
+    omega (arith, m.1, number_below 15 w (digits-digits 1 15 w m.0) (digits_most 1 15 w m.0))

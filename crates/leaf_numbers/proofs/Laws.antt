@@ -1,18 +1,20 @@
 -- Numbers spelled by digits, and the point.
-use Prim.Native.Nat.{ℕ, ◌+◌, ◌*◌, ◌-◌, ◌^◌, ◌<◌, ◌≤◌}
+use Prim.Native.Nat.{ℕ, ◌+◌, ◌*◌, ◌-◌, ◌^◌, ◌<◌, ◌≤◌, min}
 use mathlib.Core.Path.{◌≡◌, refl, ap, sym, ◌∙◌}
 use mathlib.Core.List.{List, [], ◌∷◌, ◌++◌}
-use mathlib.Core.Bool.{true, ◌&&◌}
+use mathlib.Core.Bool.{Bool, true, false, ◌&&◌}
 use native.Mathlib.Numerals.{add-one}
 use native.Mathlib.Nat.{pow-suc, pow-le-pow_right}
 use native.Mathlib.Omega.{arith}
 use lib.ListN.{length, get_or, take, drop, length-take}
 use lib.Seq.{take-suc, take_all}
 use lib.Dec.{leb}
-use borrow.Author.Tests.{leb-true}
+use borrow.Author.Tests.{leb-true, leb-false}
+use Rattle.std.specs.Prelude.{Option, Some, None, IfSome}
+use Rattle.std.specs.Option.{is_some}
 use Rattle.paper.specs.Bytes.{digit, every}
 use Rattle.paper.specs.Values.{number_after, number, lies_from, digits, piece}
-use Rattle.leaf_numbers.specs.Readings.{Spells}
+use Rattle.leaf_numbers.specs.Readings.{Spells, as_count}
 use Rattle.paper.proofs.Laws.{both_left, both_right}
 
 -- a digit more at the end
@@ -45,13 +47,16 @@ pub small_fits : (n i : ℕ) → Small n i → i ≤ 15 → n < 2900000000000000
 unfolding Small
 small_fits n i h k = let p : 10 ^ i ≤ 10 ^ 15 = pow-le-pow_right (omega arith) k in omega arith
 
-pub spells_end : (s : List ℕ) (n i : ℕ) → length s ≤ i → i ≤ 15 → n ≡ number (take i s) → Small n i → Spells s n
-spells_end s n i h k e b =
-    record { spells = e ∙ ap number (take_all i s h ∙ sym (take_all 15 s (omega arith))); bounded = small_fits n i b k }
-
-pub spells_full : (s : List ℕ) (n i : ℕ) → i ≡ 15 → n ≡ number (take i s) → Small n i → Spells s n
-spells_full s n i k e b =
-    record { spells = e ∙ ap (λ (j : ℕ). number (take j s)) k; bounded = small_fits n i b (omega arith) }
+-- a walk along the first bytes, fifteen at most, has their number
+pub spells_first : (s : List ℕ) (m n i : ℕ) → m ≡ min (length s) 15 → length (take m s) ≤ i → i ≤ 15 → n ≡ number (take i (take m s)) → Small n i → Spells s n
+spells_first s m n i k h j e b = record { spells = e ∙ ap number (take_all i (take m s) h ∙ same_first); bounded = small_fits n i b j }
+  where
+    same_first : take m s ≡ take 15 s
+    same_first = by (leb (length s) 15) refl
+      where
+        by : (c : Bool) → leb (length s) 15 ≡ c → take m s ≡ take 15 s
+        by true l = let g = leb-true (length s) 15 l in take_all m s (omega (arith, g, k)) ∙ sym (take_all 15 s g)
+        by false l = let g = leb-false (length s) 15 l in let e : m ≡ 15 = omega (arith, g, k) in ap (λ (j : ℕ). take j s) e
 
 -- so many digits are no more than that
 pub digits_most : (low high : ℕ) (w : List ℕ) → digits low high w ≡ true → length w ≤ high
@@ -72,3 +77,9 @@ spelled w n e h = e.spells ∙ ap number (take_all 15 w h)
 pub spelled_part : (w : List ℕ) (from size n : ℕ) → size ≤ 15 → Spells (take size (drop from w)) n → n ≡ number (piece from size w)
 unfolding piece
 spelled_part w from size n h e = spelled (take size (drop from w)) n e (omega (arith, length-take size (drop from w)))
+
+-- a count that is read, where it is one
+pub count_read : (w : List ℕ) (o : Option ℕ) → is_some o ≡ digits 1 15 w → IfSome o (λ n. Spells w n) → o ≡ as_count w
+unfolding as_count
+count_read w (Some n) e h = rw (← e) (ap Some (spelled w n h (digits_most 1 15 w (sym e))))
+count_read w None e h = rw (← e)

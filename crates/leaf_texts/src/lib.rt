@@ -2,41 +2,41 @@
 #![tactic(auto)]
 
 ghost use Rattle.std.specs.Prelude.{◌≡◌, true, ◌&&◌, ◌||◌, leb, ◌≤◌, length, get_or};
+ghost use Rattle.std.specs.Cmp.Lexicographic.{pointwise};
 ghost use Rattle.paper.specs.Bytes.{capital, digit, capital_or_digit, every, same};
-ghost use Rattle.leaf_texts.specs.Shapes.{fits_byte, pairwise, FourSame};
+ghost use Rattle.leaf_texts.specs.Shapes.{fits_byte};
 
-// The byte lies from low to high.
+// The byte lies from low to high. (`leaf_numbers::lies_from` says it of numbers, by a test of the definitions; both are the library's `contains`,
+// and promised by name.)
 pub fn between(low: u8, high: u8, b: u8) -> bool
     ensures { result ≡ (leb low b && leb b high) }
 {
-    if b < low {
-        return false;
-    }
-    b <= high
+    (low..=high).contains(&b)
 }
 
+#[tactic(auto, unfolding(paper::specs::Bytes::digit, paper::specs::Bytes::from_to))]
 pub fn digit(b: u8) -> bool
     ensures { result ≡ digit b }
 {
-    between(b'0', b'9', b)
+    b.is_ascii_digit()
 }
 
+#[tactic(auto, unfolding(paper::specs::Bytes::capital, paper::specs::Bytes::from_to))]
 fn capital(b: u8) -> bool
     ensures { result ≡ capital b }
 {
-    between(b'A', b'Z', b)
+    b.is_ascii_uppercase()
 }
 
+#[tactic(auto, unfolding(paper::specs::Bytes::capital_or_digit))]
 pub fn capital_or_digit(b: u8) -> bool
     ensures { result ≡ capital_or_digit b }
 {
-    if capital(b) {
-        return true;
-    }
-    digit(b)
+    capital(b) || digit(b)
 }
 
 // The byte fits one character of a shape: `0` is any digit, `A` any capital, `X` any capital or digit, every other itself.
+#[tactic(auto, unfolding(crate::specs::Shapes::fits_byte, paper::specs::Bytes::is))]
 fn fits_byte(shape: u8, b: u8) -> bool
     ensures { result ≡ fits_byte shape b }
 {
@@ -49,92 +49,40 @@ fn fits_byte(shape: u8, b: u8) -> bool
 }
 
 // Every byte fits this character of a shape.
+// (A class is told by a character, and no enum or closure: a shape is a text of them, and callers give any byte.)
 pub fn every(shape: u8, s: &[u8]) -> bool
     ensures { result ≡ every (fits_byte shape) s.now }
 {
-    let mut i = 0;
-    while i < s.len() {
-        if !fits_byte(shape, s[i]) {
-            return false;
-        }
-        i += 1;
-    }
-    true
+    s.iter().all(|&b| fits_byte(shape, b))
 }
 
 // The text fits a whole shape.
 pub fn shaped(shape: &[u8], s: &[u8]) -> bool
-    ensures { result ≡ pairwise fits_byte shape.now s.now }
+    ensures { result ≡ pointwise fits_byte shape.now s.now }
 {
-    if s.len() != shape.len() {
-        return false;
-    }
-    let mut i = 0;
-    while i < s.len() {
-        if !fits_byte(shape[i], s[i]) {
-            return false;
-        }
-        i += 1;
-    }
-    true
-}
-
-// Four bytes stand at a place of two texts of one length, the same in both.
-fn four_same(s: &[u8], t: &[u8], i: usize) -> bool
-    requires { (length s.now ≡ length t.now) × (i ≤ length s.now) }
-    ensures { result ≡ true → FourSame s.now t.now i }
-{
-    if s.len() - i < 4 {
-        return false;
-    }
-    if s[i] != t[i] {
-        return false;
-    }
-    if s[i + 1] != t[i + 1] {
-        return false;
-    }
-    if s[i + 2] != t[i + 2] {
-        return false;
-    }
-    s[i + 3] == t[i + 3]
+    s.len() == shape.len() && shape.iter().zip(s).all(|(&c, &b)| fits_byte(c, b))
 }
 
 // The two texts are equal, byte for byte.
+// Stays beside `==`: it is promised by name (docs/PROMISES.md).
+#[tactic(auto, using(crate::proofs::Laws::same_is))]
 pub fn same(s: &[u8], t: &[u8]) -> bool
     ensures { result ≡ same s.now t.now }
 {
-    if s.len() != t.len() {
-        return false;
-    }
-    let mut i = 0;
-    while four_same(s, t, i) {
-        i += 4;
-    }
-    while i < s.len() {
-        if s[i] != t[i] {
-            return false;
-        }
-        i += 1;
-    }
-    true
+    s == t
 }
 
 // The text is the one or the other.
 pub fn either(s: &[u8], one: &[u8], other: &[u8]) -> bool
     ensures { result ≡ (same s.now one.now || same s.now other.now) }
 {
-    if same(s, one) {
-        return true;
-    }
-    same(s, other)
+    same(s, one) || same(s, other)
 }
 
 // The byte at a place, 0 past the end.
+// (No Option: it is promised as a number.)
 pub fn byte_at(s: &[u8], i: usize) -> u8
     ensures { result ≡ get_or s.now i 0 }
 {
-    if i < s.len() {
-        return s[i];
-    }
-    0
+    s.get(i).copied().unwrap_or(0)
 }

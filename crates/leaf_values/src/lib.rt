@@ -7,65 +7,49 @@ ghost use Rattle.paper.specs.Values.{among, right_for, amount};
 ghost use Rattle.paper.specs.Refusals.{first_not};
 ghost use Rattle.leaf_values.specs.Judgements.{Judges};
 
-// What is said of a leaf's text; specs/Judgements.antt gives the paper's refusal for each case.
+// Why a leaf's text is refused; specs/Judgements.antt gives the paper's refusal for each case.
 #[derive(Clone, Copy)]
-pub enum Judgement {
-    Fine,
+pub enum Unfit {
     EmptyOrTooLong,
     NotInTheSet { at: usize },
     NotAllowed,
 }
 
 // Row 19: SEPA, and under row 53 SCOR.
+#[tactic(auto, unfolding(paper::specs::Bytes::bytes))]
 fn service(parent: usize, s: &[u8]) -> bool
     ensures { result ≡ same s.now (if eqb parent 53 then bytes "SCOR" else bytes "SEPA") }
 {
     if parent == 53 {
-        return leaf_texts::same(s, b"SCOR");
+        leaf_texts::same(s, b"SCOR")
+    } else {
+        leaf_texts::same(s, b"SEPA")
     }
-    leaf_texts::same(s, b"SEPA")
 }
 
 // Row 42: the amount and its currency.
+#[tactic(auto, unfolding(paper::specs::Bytes::bytes))]
 fn amount_in(currency: &[u8], s: &[u8]) -> bool
     ensures { result ≡ (amount s.now && same currency.now (bytes "EUR")) }
 {
-    if !leaf_money::amount(s) {
-        return false;
-    }
-    leaf_texts::same(currency, b"EUR")
+    leaf_money::amount(s) && leaf_texts::same(currency, b"EUR")
 }
 
 // Rows without a rule of their own: names, free text, issuers, references.
+#[tactic(auto, unfolding(paper::specs::Values::among))]
 fn is_free(row: usize) -> bool
     ensures { result ≡ among row (9 ∷ 25 ∷ 35 ∷ 49 ∷ 54 ∷ 55 ∷ []) }
 {
-    if row == 9 {
-        return true;
-    }
-    if row == 25 {
-        return true;
-    }
-    if row == 35 {
-        return true;
-    }
-    if row == 49 {
-        return true;
-    }
-    if row == 54 {
-        return true;
-    }
-    row == 55
+    matches!(row, 9 | 25 | 35 | 49 | 54 | 55)
 }
 
 // The rule of the leaf's row.
+#[tactic(auto, unfolding(paper::specs::Bytes::bytes, paper::specs::Values::right_for, paper::specs::Values::among))]
 fn right_for(parent: usize, row: usize, currency: &[u8], s: &[u8]) -> bool
     ensures { result ≡ right_for parent row currency.now s.now }
 {
     match row {
-        4 | 11 => leaf_identifiers::id(s),
-        39 => leaf_identifiers::id(s),
-        40 => leaf_identifiers::id(s),
+        4 | 11 | 39 | 40 => leaf_identifiers::id(s),
         12 => leaf_texts::same(s, b"TRF"),
         13 => leaf_texts::either(s, b"true", b"false"),
         17 => leaf_texts::either(s, b"NORM", b"HIGH"),
@@ -86,8 +70,8 @@ fn right_for(parent: usize, row: usize, currency: &[u8], s: &[u8]) -> bool
     }
 }
 
-// The place of the first character that is not in the set; the length where there is none. Where it is known that the text is of the characters of values
-// alone (3, crates/tree/specs/Laid.antt), they are not looked at again.
+// The place of the first character that is not in the set; the length where there is none, as `first_not` of the definitions. Where it is known that the text is of the characters of values
+// alone (3, crates/tree/specs/Laid.antt), they are not looked at again. What is known stays a number, as the tree holds it and `leaf` takes it: an enum would be narrower.
 fn first_outside(s: &[u8], known: usize) -> usize
     ensures { (known ≡ 3 → Every value_character s.now) → result ≡ first_not value_character s.now }
 {
@@ -105,24 +89,18 @@ pub fn leaf(
     currency: &[u8],
     s: &[u8],
     known: usize,
-) -> Judgement
+) -> Result<(), Unfit>
     ensures { (known ≡ 3 → Every value_character s.now) → Judges parent row longest currency.now s.now result }
 {
-    if s.len() < 1 {
-        return Judgement::EmptyOrTooLong;
-    }
-    if longest < s.len() {
-        return Judgement::EmptyOrTooLong;
+    if s.is_empty() || longest < s.len() {
+        return Err(Unfit::EmptyOrTooLong);
     }
     let at = first_outside(s, known);
     if at < s.len() {
-        return Judgement::NotInTheSet { at };
+        return Err(Unfit::NotInTheSet { at });
     }
-    if leaf_characters::spaces_alone(s) {
-        return Judgement::NotAllowed;
+    if leaf_characters::spaces_alone(s) || !right_for(parent, row, currency, s) {
+        return Err(Unfit::NotAllowed);
     }
-    if !right_for(parent, row, currency, s) {
-        return Judgement::NotAllowed;
-    }
-    Judgement::Fine
+    Ok(())
 }

@@ -1,15 +1,8 @@
 -- What is said where one element of two payments is compared.
-use Rattle.std.specs.Prelude.{[], ◌∷◌, Bool, true, false}
+use Rattle.std.specs.Prelude.{[], ◌∷◌}
 use Rattle.std.proofs.Math.Option.{Option}
 use Rattle.paper.specs.Form.{Element}
 use Rattle.paper.specs.Payments.{Payment, in_payment}
-use Rattle.tree_routes.specs.declared.Found.{Found}
-use Rattle.tree_routes.specs.declared.Found.TheVariants.{At, Nothing}
-
--- nothing was found
-unfoldable pub is_absent : Found → Bool
-is_absent (At i) = false
-is_absent Nothing = true
 
 -- what remittance is made of
 abbrev pub free_of : Payment → Option Element

@@ -12,9 +12,10 @@ use Rattle.paper.specs.Payments.{Payment}
 use Rattle.paper.specs.Fields.{Value, absent, text_value, text_value_or, cents_value, remittance_value, plain, or_means, amount_field, remittance, fields, same_value, field_element, values_of, differ_from}
 use Rattle.tree_leaves.specs.Readable.{ReadMoney}
 use Rattle.move_alike.specs.Alike.{free_of, issuer_of, reference_of, amount_in}
-use Rattle.move_compared.specs.Compared.{value_at, lowest}
-use Rattle.move_compared.specs.declared.Field.{Field}
-use Rattle.move_compared.specs.declared.Field.TheVariants.{Same, Differs}
+use Rattle.move_compared.specs.Compared.{value_at}
+use Rattle.paper.specs.Answers.{perhaps}
+use Rattle.std.specs.Prelude.{Some, None}
+use Rattle.std.specs.Prelude as code
 
 -- each of the seventeen fields
 plain_value : (p : Payment) (k : ℕ) → k < 17 → (k ≡ 0 → ⊥) → (k ≡ 1 → ⊥) → (k ≡ 10 → ⊥) → (k ≡ 16 → ⊥)
@@ -116,14 +117,14 @@ unfolding values_of fields differ_from
 no_field_differs p q e = rw e
 
 -- Two answers that meet `differing`'s contract agree.
-field_by : Option ℕ → Field
-field_by none = Same
-field_by (some field) = Differs field
+field_by : Option ℕ → code.Option ℕ
+field_by none = None
+field_by (some field) = Some field
 
-field_again : (f : Field) → field_by (lowest f) ≡ f
-unfolding field_by lowest
-field_again Same = refl
-field_again (Differs field) = refl
+field_again : (f : code.Option ℕ) → field_by (perhaps f) ≡ f
+unfolding field_by perhaps
+field_again None = refl
+field_again (Some field) = refl
 
-pub one_field : (f g : Field) → lowest f ≡ lowest g → f ≡ g
+pub one_field : (f g : code.Option ℕ) → perhaps f ≡ perhaps g → f ≡ g
 one_field f g e = sym (field_again f) ∙ ap field_by e ∙ field_again g

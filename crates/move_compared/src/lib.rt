@@ -2,82 +2,70 @@
 #![tactic(auto)]
 
 ghost use Rattle.std.specs.Prelude.{◌≡◌, ◌≤◌};
+ghost use Rattle.paper.specs.Answers.{perhaps};
 ghost use Rattle.paper.specs.Payments.{Payment};
-ghost use Rattle.paper.specs.Fields.{same_value, values_of, differ_from};
+ghost use Rattle.paper.specs.Fields.{field_element, same_value, values_of, differ_from};
+ghost use Rattle.tree_routes.specs.Finds.{Finds};
 ghost use Rattle.tree_fields.specs.Routes.{RoutesAre};
-ghost use Rattle.move_compared.specs.Compared.{Stands, value_at, lowest};
+ghost use Rattle.move_compared.specs.Compared.{Stands, value_at};
 
-use tree::Tree;
+use move_alike::Side;
 use tree_fields::Routes;
 use tree_routes::Children;
 
-// Whether two payments differ, and the lowest field in which they do.
+// No type carries `Stands`: `differing` answers for any numbers that are lent (docs/PROMISES.md).
+// Where a payment stands: its message, and the first children of its own element and of its block's.
 #[derive(Clone, Copy)]
-pub enum Field {
-    Same,
-    Differs(usize),
+pub struct Place<'a> {
+    pub side: Side<'a>,
+    pub own: &'a Children,
+    pub block: &'a Children,
+}
+
+impl<'a> Place<'a> {
+    // Where a field of the payment stands.
+    fn field(self, routes: &Routes, field: usize) -> Option<usize>
+        ensures { (p : Payment) → RoutesAre routes.now
+            → Stands self.entry.side.bytes.now self.entry.side.tree.now self.entry.own.now self.entry.block.now p
+            → Finds self.entry.side.bytes.now self.entry.side.tree.now (field_element field p) result }
+    {
+        tree_fields::field_at(self.side.tree, routes, self.own, self.block, field)
+    }
 }
 
 // The two payments agree in this field.
-fn same_field(
-    routes: &Routes,
-    s1: &[u8],
-    tree1: &Tree,
-    own1: &Children,
-    block1: &Children,
-    s2: &[u8],
-    tree2: &Tree,
-    own2: &Children,
-    block2: &Children,
-    field: usize,
-) -> bool
+fn same_field(routes: &Routes, one: Place, other: Place, field: usize) -> bool
     ensures { (p q : Payment) → RoutesAre routes.now
-        → Stands s1.now tree1.now own1.now block1.now p
-        → Stands s2.now tree2.now own2.now block2.now q
+        → Stands one.entry.side.bytes.now one.entry.side.tree.now one.entry.own.now one.entry.block.now p
+        → Stands other.entry.side.bytes.now other.entry.side.tree.now other.entry.own.now other.entry.block.now q
         → 1 ≤ field → field ≤ 17 → result ≡ same_value (value_at field p) (value_at field q) }
 {
     if field == 17 {
-        return move_alike::same_remittance(s1, tree1, own1, s2, tree2, own2);
+        return move_alike::same_remittance(one.side, one.own, other.side, other.own);
     }
-    let mine = tree_fields::field_at(tree1, routes, own1, block1, field);
-    let theirs = tree_fields::field_at(tree2, routes, own2, block2, field);
-    if field == 1 {
-        return move_alike::same_or(s1, tree1, mine, s2, tree2, theirs, b"true");
+    let mine = one.field(routes, field);
+    let theirs = other.field(routes, field);
+    match field {
+        // batch booking, priority: what absence means
+        1 => move_alike::same_or(one.side, mine, other.side, theirs, b"true"),
+        2 => move_alike::same_or(one.side, mine, other.side, theirs, b"NORM"),
+        // the amount
+        11 => move_alike::same_cents(one.side, mine, other.side, theirs),
+        _ => move_alike::same_given(one.side, mine, other.side, theirs),
     }
-    if field == 2 {
-        return move_alike::same_or(s1, tree1, mine, s2, tree2, theirs, b"NORM");
-    }
-    if field == 11 {
-        return move_alike::same_cents(s1, tree1, mine, s2, tree2, theirs);
-    }
-    move_alike::same_given(s1, tree1, mine, s2, tree2, theirs)
 }
 
 // The lowest field in which a payment of the first message and a payment of the second differ, whose first children are known and their blocks'.
-pub fn differing(
-    routes: &Routes,
-    s1: &[u8],
-    tree1: &Tree,
-    own1: &Children,
-    block1: &Children,
-    s2: &[u8],
-    tree2: &Tree,
-    own2: &Children,
-    block2: &Children,
-) -> Field
+pub fn differing(routes: &Routes, one: Place, other: Place) -> Option<usize>
     ensures { (p q : Payment) → RoutesAre routes.now
-        → Stands s1.now tree1.now own1.now block1.now p
-        → Stands s2.now tree2.now own2.now block2.now q
-        → lowest result ≡ differ_from 1 (values_of p) (values_of q) }
+        → Stands one.entry.side.bytes.now one.entry.side.tree.now one.entry.own.now one.entry.block.now p
+        → Stands other.entry.side.bytes.now other.entry.side.tree.now other.entry.own.now other.entry.block.now q
+        → perhaps result ≡ differ_from 1 (values_of p) (values_of q) }
 {
-    let mut field = 1;
-    while field < 18 {
-        if !same_field(
-            routes, s1, tree1, own1, block1, s2, tree2, own2, block2, field,
-        ) {
-            return Field::Differs(field);
+    for field in 1..=17 {
+        if !same_field(routes, one, other, field) {
+            return Some(field);
         }
-        field += 1;
     }
-    Field::Same
+    None
 }

@@ -1,27 +1,25 @@
 -- The file of the regrouping list, read by places.
 use Rattle.std.specs.Prelude.{if◌then◌else◌}
-use Prim.Native.Nat.{ℕ, zero, suc, ◌+◌, ◌*◌, ◌<◌, ◌≤◌}
+use Prim.Native.Nat.{ℕ, zero, suc, ◌+◌, ◌-◌, ◌*◌, ◌<◌, ◌≤◌}
 use native.Mathlib.Omega.{arith}
 use mathlib.Core.List.{List, [], ◌∷◌}
 use mathlib.Core.Option.{Option, none, some}
 use mathlib.Core.Bool.{Bool, true, false, ◌&&◌}
 use mathlib.Core.Path.{◌≡◌, refl, sym, ap, ◌∙◌, subst}
-use lib.ListN.{length, get_or, take, drop, length-drop, get_or-eq_default}
+use lib.ListN.{length, get_or, take, drop, length-drop, length-take, get_or-eq_default}
 use lib.Seq.{get_or-drop}
+use Rattle.std.proofs.lemmas.List.{get_or-take}
+use Rattle.std.proofs.lemmas.Bool.{cases_lt}
+use Rattle.std.specs.Bool.{then_some}
 use lib.Dec.{eqb}
-use borrow.Author.Tests.{eq-eqb, eqb-true}
+use borrow.Author.Tests.{eq-eqb, eqb-true, eqb-false}
 use Rattle.paper.specs.Bytes.{bytes, same}
 use Rattle.paper.specs.Regrouping.{add_first, numbers_16, counted, ordinals_of}
-use Rattle.paper.proofs.Laws.{false_not_true, some_not_none, both_left, both_right}
+use Rattle.paper.proofs.Laws.{some_not_none, both_left, both_right, same_says, same_tests}
 use Rattle.move_lists.specs.Lists.{how_many}
-use Rattle.move_lists.specs.declared.Listed.TheVariants.{NotOfTheForm, Ordinals}
-
--- past the end of a file
-pub past_end : (file : List ℕ) (k : ℕ) → length file ≤ k → 0 ≡ get_or file k 0 * 256 + get_or file (k + 1) 0
-past_end file k h =
-    let x : get_or file k 0 ≡ 0 = get_or-eq_default file 0 h in
-    let y : get_or file (k + 1) 0 ≡ 0 = get_or-eq_default file 0 (omega arith) in
-    omega (arith, x, y)
+use Rattle.std.specs.Prelude.{Some, None}
+use Rattle.std.proofs.Common.{inl, inr}
+use Rattle.std.specs.Prelude as code
 
 both_at : (s : List ℕ) {a b c d : ℕ} → a ≡ c → b ≡ d → get_or s a 0 * 256 + get_or s b 0 ≡ get_or s c 0 * 256 + get_or s d 0
 both_at s p q = cc
@@ -58,11 +56,11 @@ numbers_say [] ns e = let x : [] ≡ ns = cc in subst (Numbers []) x no_numbers
 numbers_say (high ∷ []) ns e = some_not_none (sym e)
 numbers_say (high ∷ low ∷ s) ns e = first_more high low s ns (numbers_16 s) (λ ms d. numbers_say s ms d) e
 
-record Some (s : List ℕ) : Type 0 where
+record There (s : List ℕ) : Type 0 where
   ns : List ℕ
   are : numbers_16 s ≡ some ns
 
-numbers_there : (n : ℕ) (s : List ℕ) → length s ≡ 2 * n → Some s
+numbers_there : (n : ℕ) (s : List ℕ) → length s ≡ 2 * n → There s
 unfolding numbers_16 add_first
 numbers_there n [] e = record { ns = []; are = refl }
 numbers_there n (high ∷ []) e = absurd (omega (arith, e))
@@ -90,9 +88,24 @@ counted_tests : (ns ks : List ℕ) → ns ≡ 1 ∷ length ks ∷ ks → counted
 unfolding counted
 counted_tests ns ks e = rw (e, eq-eqb (length ks) (length ks) refl)
 
+-- `RGL`, version 1, and room for a count
+pub record Head (file : List ℕ) : Type 0 where
+  pub long : 7 ≤ length file
+  pub first : get_or file 0 0 ≡ 82
+  pub second : get_or file 1 0 ≡ 71
+  pub third : get_or file 2 0 ≡ 76
+  pub high : get_or file 3 0 ≡ 0
+  pub low : get_or file 4 0 ≡ 1
+
+tag_of : (file : List ℕ) → Head file → take 3 file ≡ 82 ∷ 71 ∷ 76 ∷ []
+tag_of [] h = absurd (omega (arith, h.long))
+tag_of (a ∷ []) h = absurd (omega (arith, h.long))
+tag_of (a ∷ b ∷ []) h = absurd (omega (arith, h.long))
+tag_of (a ∷ b ∷ c ∷ s) h = rw (h.first, h.second, h.third)
+
 -- A file of the form, by its places.
 pub record Formed (file ks : List ℕ) : Type 0 where
-  pub tag : same (take 3 file) (bytes "RGL") ≡ true
+  pub tag : take 3 file ≡ 82 ∷ 71 ∷ 76 ∷ []
   pub numbers : Numbers (drop 3 file) (1 ∷ length ks ∷ ks)
 
 behind : (file ks : List ℕ) (o : Option (List ℕ)) → numbers_16 (drop 3 file) ≡ o → ◌≡◌ {A = Option (List ℕ)} (elim o [ none ↦ none | some ns ↦ counted ns ]) (some ks)
@@ -101,13 +114,13 @@ behind file ks none d e = some_not_none (sym e)
 behind file ks (some ns) d e = subst (Numbers (drop 3 file)) (counted_says ns ks e) (numbers_say (drop 3 file) ns d)
 
 pub formed : (file ks : List ℕ) → ordinals_of file ≡ some ks → Formed file ks
-unfolding ordinals_of
+unfolding ordinals_of bytes
 formed file ks e = go (same (take 3 file) (bytes "RGL")) refl e
   where
     go : (t : Bool) → same (take 3 file) (bytes "RGL") ≡ t
         → ◌≡◌ {A = Option (List ℕ)} (if t then elim (numbers_16 (drop 3 file)) [ none ↦ none | some ns ↦ counted ns ] else none) (some ks) → Formed file ks
     go false d q = some_not_none (sym q)
-    go true d q = record { tag = d; numbers = behind file ks (numbers_16 (drop 3 file)) refl q }
+    go true d q = record { tag = same_says (take 3 file) _ d; numbers = behind file ks (numbers_16 (drop 3 file)) refl q }
 
 module _ {file ks : List ℕ} (f : Formed file ks) where
   pub as_long : length file ≡ 7 + 2 * length ks
@@ -116,8 +129,17 @@ module _ {file ks : List ℕ} (f : Formed file ks) where
   behind_tag : (k : ℕ) → get_or (1 ∷ length ks ∷ ks) k 0 ≡ get_or file (3 + 2 * k) 0 * 256 + get_or file (3 + (2 * k + 1)) 0
   behind_tag k = f.numbers.each k ∙ rw (get_or-drop 3 file (2 * k) 0, get_or-drop 3 file (2 * k + 1) 0)
 
-  pub version_is : get_or file 3 0 * 256 + get_or file 4 0 ≡ 1
-  version_is = sym (behind_tag 0)
+  pub head_is : Head file
+  head_is =
+      let v : 1 ≡ get_or file 3 0 * 256 + get_or file 4 0 = behind_tag 0 in
+      record {
+        long = omega (arith, as_long);
+        first = sym (get_or-take 3 file 0 0 (omega arith)) ∙ ap (λ s. get_or s 0 0) f.tag;
+        second = sym (get_or-take 3 file 1 0 (omega arith)) ∙ ap (λ s. get_or s 1 0) f.tag;
+        third = sym (get_or-take 3 file 2 0 (omega arith)) ∙ ap (λ s. get_or s 2 0) f.tag;
+        high = omega (arith, v);
+        low = omega (arith, v);
+      }
 
   pub count_is : get_or file 5 0 * 256 + get_or file 6 0 ≡ length ks
   count_is = sym (behind_tag 1)
@@ -130,25 +152,16 @@ module _ {file ks : List ℕ} (f : Formed file ks) where
 
 -- what is answered of a file
 module _ (file : List ℕ) where
-  not_formed : ((ks : List ℕ) → Formed file ks → ⊥) → NotOfTheForm ≡ how_many (ordinals_of file)
+  not_formed : ((ks : List ℕ) → Formed file ks → ⊥) → None ≡ how_many (ordinals_of file)
   unfolding how_many
   not_formed f = go (ordinals_of file) refl
     where
-      go : (o : Option (List ℕ)) → ordinals_of file ≡ o → NotOfTheForm ≡ how_many o
+      go : (o : Option (List ℕ)) → ordinals_of file ≡ o → None ≡ how_many o
       go none e = refl
       go (some ks) e = absurd (f ks (formed file ks e))
 
-  pub too_short : length file < 7 → NotOfTheForm ≡ how_many (ordinals_of file)
-  too_short h = not_formed (λ ks f. omega (arith, as_long f))
-
-  pub other_tag : {r : Bool} → r ≡ same (take 3 file) (bytes "RGL") → r ≡ false → NotOfTheForm ≡ how_many (ordinals_of file)
-  other_tag e d = not_formed (λ ks f. false_not_true (sym d ∙ e ∙ f.tag))
-
-  pub other_version : {n : ℕ} → n ≡ get_or file 3 0 * 256 + get_or file 4 0 → (n ≡ 1 → ⊥) → NotOfTheForm ≡ how_many (ordinals_of file)
-  other_version e d = not_formed (λ ks f. d (e ∙ version_is f))
-
-  pub other_count : {n : ℕ} → n ≡ get_or file 5 0 * 256 + get_or file 6 0 → (length file ≡ 7 + 2 * n → ⊥) → NotOfTheForm ≡ how_many (ordinals_of file)
-  other_count e d = not_formed (λ ks f. d (omega (arith, as_long f, e, count_is f)))
+  pub other_head : (Head file → ⊥) → None ≡ how_many (ordinals_of file)
+  other_head n = not_formed (λ ks f. n (head_is f))
 
   three : (ns : List ℕ) (n : ℕ) → length ns ≡ 2 + n → get_or ns 0 0 ≡ 1 → get_or ns 1 0 ≡ n → counted ns ≡ some (drop 2 ns)
   three [] n l a b = absurd (omega (arith, l))
@@ -156,20 +169,41 @@ module _ (file : List ℕ) where
   three (version ∷ count ∷ ks) n l a b =
       counted_tests (version ∷ count ∷ ks) ks (let x : count ≡ length ks = omega (arith, b, l) in cc)
 
-  pub of_the_form : {r : Bool} {v n : ℕ} → r ≡ same (take 3 file) (bytes "RGL") → r ≡ true → v ≡ get_or file 3 0 * 256 + get_or file 4 0 → v ≡ 1
-      → n ≡ get_or file 5 0 * 256 + get_or file 6 0 → length file ≡ 7 + 2 * n → Ordinals n ≡ how_many (ordinals_of file)
-  unfolding how_many ordinals_of
-  of_the_form {n = n} t d v one c l =
+  of_the_form : Head file → (n : ℕ) → n ≡ get_or file 5 0 * 256 + get_or file 6 0 → length file ≡ 7 + 2 * n → Some n ≡ how_many (ordinals_of file)
+  unfolding how_many ordinals_of bytes
+  of_the_form f n c l =
       let s : length (drop 3 file) ≡ 2 * (2 + n) = omega (arith, length-drop 3 file) in
       let r = numbers_there (2 + n) (drop 3 file) s in
       let h = numbers_say (drop 3 file) r.ns r.are in
       let m : length r.ns ≡ 2 + n = omega (arith, h.twice) in
-      let a : get_or r.ns 0 0 ≡ 1 = h.each 0 ∙ rw (get_or-drop 3 file 0 0, get_or-drop 3 file 1 0) (sym v ∙ one) in
+      let a : get_or r.ns 0 0 ≡ 1 = h.each 0 ∙ rw (get_or-drop 3 file 0 0, get_or-drop 3 file 1 0, f.high, f.low) in
       let b : get_or r.ns 1 0 ≡ n = h.each 1 ∙ rw (get_or-drop 3 file 2 0, get_or-drop 3 file 3 0) (sym c) in
-      let g : same (take 3 file) (bytes "RGL") ≡ true = sym t ∙ d in
+      let g : same (take 3 file) (82 ∷ 71 ∷ 76 ∷ []) ≡ true = rw (tag_of file f) (same_tests _) in
       let k : length (drop 2 r.ns) ≡ n = omega (arith, length-drop 2 r.ns) in
-      rw (g, r.are, three r.ns n m a b) (ap Ordinals (sym k))
+      rw (g, r.are, three r.ns n m a b) (ap Some (sym k))
+
+  -- the answer behind a head: the count, if so many ordinals follow
+  pub behind_head : Head file → {r : code.Option ℕ} {n : ℕ} → r ≡ then_some (eqb (length (take (length file - 7) (drop 7 file))) (2 * n)) n
+      → n ≡ get_or file 5 0 * 256 + get_or file 6 0 → r ≡ how_many (ordinals_of file)
+  behind_head f {r = r} {n = n} e c = go (eqb (length (take (length file - 7) (drop 7 file))) (2 * n)) refl e
+    where
+      m : length (take (length file - 7) (drop 7 file)) ≡ length file - 7
+      m = omega (arith, length-take {A = ℕ}, length-drop {A = ℕ})
+
+      go : (t : Bool) → eqb (length (take (length file - 7) (drop 7 file))) (2 * n) ≡ t → r ≡ then_some t n → r ≡ how_many (ordinals_of file)
+      go true d q = q ∙ of_the_form f n c (let x = eqb-true _ (2 * n) d in omega (arith, f.long, m, x))
+      go false d q = q ∙ not_formed (λ ks g. eqb-false _ (2 * n) d (omega (arith, m, c, as_long g, count_is g)))
 
 -- past the end of the list
-pub past-list : (file ks : List ℕ) (k : ℕ) → length file ≤ 2 * k → ordinals_of file ≡ some ks → 0 ≡ get_or ks k 0
-past-list file ks k h e = sym (get_or-eq_default ks 0 (omega (arith, as_long (formed file ks e))))
+pub past_list : (file ks : List ℕ) (k : ℕ) → length file ≤ 2 * k + 1 → ordinals_of file ≡ some ks → 0 ≡ get_or ks k 0
+past_list file ks k h e = sym (get_or-eq_default ks 0 (omega (arith, as_long (formed file ks e))))
+
+-- the number behind the count, or 0 past the end
+pub ordinal_there : (file ks : List ℕ) (k : ℕ) {n : ℕ} → (7 + 2 * k + 1 < length file → n ≡ get_or file (7 + 2 * k) 0 * 256 + get_or file (7 + 2 * k + 1) 0)
+    → (length file ≤ 7 + 2 * k → n ≡ 0) → ordinals_of file ≡ some ks → n ≡ get_or ks k 0
+ordinal_there file ks k within past e =
+    let f = formed file ks e in
+    elim (cases_lt k (length ks)) [
+      | inl h ↦ within (omega (arith, as_long f)) ∙ ordinal_is f k
+      | inr h ↦ past (omega (arith, as_long f)) ∙ sym (get_or-eq_default ks 0 h)
+    ]

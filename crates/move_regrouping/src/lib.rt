@@ -4,59 +4,31 @@
 ghost use Rattle.std.specs.Prelude.{◌≡◌};
 ghost use Rattle.paper.specs.Form.{Element};
 ghost use Rattle.paper.specs.Rows.{as_new};
-ghost use Rattle.paper.specs.Refusals.{accepted_with, outcome_alone};
-ghost use Rattle.paper.specs.Regrouping.{of_payments, all_values, of_outcomes};
+ghost use Rattle.paper.specs.Regrouping.{of_payments, all_values};
 ghost use Rattle.paper.specs.Answers.{profile_named, regrouping_says};
-ghost use Rattle.move_pairs.specs.Pairs.{InOrder, pairs_say};
+ghost use Rattle.move_pairs.specs.Pairs.{InOrder};
 ghost use Rattle.move_regrouping.specs.Promises.{RegroupPromise, DifferingPromise};
 
-use move_lists::Listed;
-use move_pairs::Paired;
-use paper::{Profile, Regrouping, Verdict};
-use rule_limits::Order;
-use tree::Tree;
+use move_alike::Side;
+use move_pairs::Ordered;
+use paper::{NotRegrouped, Profile, Regrouping};
 
-// 18, 19 and 20, as the walk over the pairs says them.
-fn paired_as(paired: Paired) -> Regrouping
-    ensures { regrouping_says result ≡ pairs_say paired }
-{
-    match paired {
-        Paired::Accepted => Regrouping::Accepted,
-        Paired::OrdinalTooLarge { k } => Regrouping::OrdinalTooLarge { k },
-        Paired::NamedBefore { k } => Regrouping::NamedBefore { k },
-        Paired::FieldsDiffer { k, field } => Regrouping::FieldsDiffer { k, field },
-    }
-}
-
-// 15, 16, 17, and then each pair.
-fn listed(
-    first: &[u8],
-    tree1: &Tree,
-    order1: &Order,
-    many1: usize,
-    second: &[u8],
-    tree2: &Tree,
-    order2: &Order,
-    many2: usize,
-    list: &[u8],
-) -> Regrouping
-    ensures { (root1 root2 : Element) → InOrder first.now tree1.now order1.now many1 root1
-        → InOrder second.now tree2.now order2.now many2 root2
+// 15, 16, 17, and then each pair: 18, 19, 20.
+// (How many stays beside each: `pairing` takes one number for both.)
+fn listed(one: Ordered, many1: usize, other: Ordered, many2: usize, list: &[u8]) -> Regrouping
+    ensures { (root1 root2 : Element) → InOrder one.entry.side.bytes.now one.entry.side.tree.now one.entry.order.now many1 root1
+        → InOrder other.entry.side.bytes.now other.entry.side.tree.now other.entry.order.now many2 root2
         → regrouping_says result ≡ of_payments (all_values root1) (all_values root2) list.now }
 {
     if many1 != many2 {
-        return Regrouping::NumbersOfPaymentsDiffer;
+        return Err(NotRegrouped::NumbersOfPaymentsDiffer);
     }
-    let found = move_lists::ordinals(list);
-    match found {
-        Listed::NotOfTheForm => Regrouping::ListNotOfTheForm,
-        Listed::Ordinals(n) => {
-            if n != many1 {
-                return Regrouping::CountNotTheNumberOfPayments;
-            }
-            paired_as(move_pairs::pairing(first, tree1, order1, second, tree2, order2, list, many1))
-        }
+    let n = move_lists::ordinals(list).ok_or(NotRegrouped::ListNotOfTheForm)?;
+    if n != many1 {
+        return Err(NotRegrouped::CountNotTheNumberOfPayments);
     }
+    move_pairs::pairing(one, other, list, many1)?;
+    Ok(())
 }
 
 // The profile of the same rows in which a message is new.
@@ -64,38 +36,8 @@ fn as_new(profile: Profile) -> Profile
     ensures { profile_named result ≡ as_new (profile_named profile) }
 {
     Profile {
-        instant: profile.instant,
         archived: false,
-    }
-}
-
-// The second message's refusal, read as a new one, and what follows.
-fn with_second(
-    profile: Profile,
-    first: &[u8],
-    tree1: &Tree,
-    order1: &Order,
-    many1: usize,
-    second: &[u8],
-    list: &[u8],
-) -> Regrouping
-    ensures { (root1 : Element) → InOrder first.now tree1.now order1.now many1 root1
-        → regrouping_says result ≡ of_outcomes (accepted_with root1) (outcome_alone (as_new (profile_named profile)) second.now) list.now }
-{
-    let mut tree2 = [0u16; tree::NUMBERS];
-    let mut order2 = [0u16; rule_limits::NUMBERS];
-    let found = verdict_stages::outcome(as_new(profile), second, &mut tree2, &mut order2);
-    match found {
-        Verdict::Refused(fault) => Regrouping::SecondRefused(fault),
-        Verdict::Accepted {
-            blocks: _,
-            payments,
-            cents: _,
-        } => {
-            listed(
-                first, tree1, order1, many1, second, &tree2, &order2, payments, list,
-            )
-        }
+        ..profile
     }
 }
 
@@ -106,36 +48,43 @@ pub fn regroup(profile: Profile, first: &[u8], second: &[u8], list: &[u8]) -> Re
 {
     let mut tree1 = [0u16; tree::NUMBERS];
     let mut order1 = [0u16; rule_limits::NUMBERS];
-    let found = verdict_stages::outcome(profile, first, &mut tree1, &mut order1);
-    match found {
-        Verdict::Refused(fault) => Regrouping::FirstRefused(fault),
-        Verdict::Accepted {
-            blocks: _,
-            payments,
-            cents: _,
-        } => with_second(profile, first, &tree1, &order1, payments, second, list),
-    }
+    let found1 = verdict_stages::outcome(profile, first, &mut tree1, &mut order1);
+    let one = found1.map_err(NotRegrouped::FirstRefused)?;
+    let mut tree2 = [0u16; tree::NUMBERS];
+    let mut order2 = [0u16; rule_limits::NUMBERS];
+    let found2 = verdict_stages::outcome(as_new(profile), second, &mut tree2, &mut order2);
+    let other = found2.map_err(NotRegrouped::SecondRefused)?;
+    let first_in_order = Ordered {
+        side: Side {
+            bytes: first,
+            tree: &tree1,
+        },
+        order: &order1,
+    };
+    let second_in_order = Ordered {
+        side: Side {
+            bytes: second,
+            tree: &tree2,
+        },
+        order: &order2,
+    };
+    listed(
+        first_in_order,
+        one.payments,
+        second_in_order,
+        other.payments,
+        list,
+    )
 }
 
 // For 20 the text of the differing field as the second message has it, a part of the second message; otherwise the empty part at 0 of the second.
 pub fn differing<'a>(profile: Profile, first: &[u8], second: &'a [u8], list: &[u8]) -> &'a [u8]
     ensures { DifferingPromise (profile_named profile) first.now second.entry list.now result }
 {
-    let answer = regroup(profile, first, second, list);
-    match answer {
-        Regrouping::FieldsDiffer { k, field } => verdict_reader::field(
-            as_new(profile),
-            second,
-            k,
-            field,
-        ),
-        Regrouping::Accepted => &second[0..0],
-        Regrouping::FirstRefused(_) => &second[0..0],
-        Regrouping::SecondRefused(_) => &second[0..0],
-        Regrouping::NumbersOfPaymentsDiffer => &second[0..0],
-        Regrouping::ListNotOfTheForm => &second[0..0],
-        Regrouping::CountNotTheNumberOfPayments => &second[0..0],
-        Regrouping::OrdinalTooLarge { k: _ } => &second[0..0],
-        Regrouping::NamedBefore { k: _ } => &second[0..0],
+    match regroup(profile, first, second, list) {
+        Err(NotRegrouped::FieldsDiffer { k, field }) => {
+            verdict_reader::field(as_new(profile), second, k, field)
+        }
+        _ => &second[0..0],
     }
 }

@@ -1,15 +1,14 @@
 -- What the code is told and what it answers, in the rules' words. A caller names a profile by a struct of the code: its part `instant` says which rows, its part `archived` whether
--- the message is archived. The answers are enums: this gives the rules' number and values for each of their cases.
-use Rattle.std.specs.Prelude.{ℕ}
+-- the message is archived. An answer is `Ok`, or `Err` with what is wrong, an enum: this gives the rules' number and values for each of their cases. Where the code answers a number
+-- or none, it is `Some` with the number, or `None`.
+use Rattle.std.specs.Prelude.{ℕ, Result, Ok, Err, Some, None}
+use Rattle.std.specs.Prelude as code
 use Rattle.std.proofs.Math.Option.{Option, none, some}
 use Rattle.paper.specs.declared.Fault.{Fault}
 use Rattle.paper.specs.declared.Fault.TheVariants.{TableTooShort, MessageTooLong, NotOfTheForm, NotAllowedThere, Missing, TooMany, EmptyOrTooLong, CharacterNotInTheSet, ValueNotAllowed, Withdrawn, InPaymentAndBlock, InNeither, BlockIdRepeated, CountDiffers, SumDiffers}
-use Rattle.paper.specs.declared.Finding.{Finding}
-use Rattle.paper.specs.declared.Finding.TheVariants as finding
-use Rattle.paper.specs.declared.Verdict.{Verdict}
-use Rattle.paper.specs.declared.Verdict.TheVariants.{Accepted, Refused}
-use Rattle.paper.specs.declared.Regrouping.{Regrouping}
-use Rattle.paper.specs.declared.Regrouping.TheVariants as regrouping
+use Rattle.paper.specs.declared.Accepted.{Accepted}
+use Rattle.paper.specs.declared.NotRegrouped.{NotRegrouped}
+use Rattle.paper.specs.declared.NotRegrouped.TheVariants.{FirstRefused, SecondRefused, NumbersOfPaymentsDiffer, ListNotOfTheForm, CountNotTheNumberOfPayments, OrdinalTooLarge, NamedBefore, FieldsDiffer}
 use Rattle.paper.specs.declared.Profile.{Profile}
 use Rattle.paper.specs.Sizes.{largest_message}
 use Rattle.paper.specs.Rows as rules
@@ -42,21 +41,26 @@ refusal_of (CountDiffers element offset) = numbered 12 element offset
 refusal_of (SumDiffers element offset) = numbered 13 element offset
 
 -- what a stage has found: nothing, or a refusal
-unfoldable pub refusal_found : Finding → Option Refusal
-refusal_found finding.Nothing = none
-refusal_found (finding.Refused fault) = some (refusal_of fault)
+unfoldable pub refusal_found : Result Unit Fault → Option Refusal
+refusal_found (Ok tt) = none
+refusal_found (Err fault) = some (refusal_of fault)
 
-unfoldable pub verdict_says : Verdict → MessageAnswer
-verdict_says (Accepted blocks payments cents) = accepted blocks payments cents
-verdict_says (Refused fault) = refused (refusal_of fault)
+unfoldable pub verdict_says : Result Accepted Fault → MessageAnswer
+verdict_says (Ok of) = accepted of.blocks of.payments of.cents
+verdict_says (Err fault) = refused (refusal_of fault)
 
-unfoldable pub regrouping_says : Regrouping → RegroupingAnswer
-regrouping_says regrouping.Accepted = answered 0 0 0
-regrouping_says (regrouping.FirstRefused fault) = message_refused 1 (refusal_of fault)
-regrouping_says (regrouping.SecondRefused fault) = message_refused 2 (refusal_of fault)
-regrouping_says regrouping.NumbersOfPaymentsDiffer = answered 15 0 0
-regrouping_says regrouping.ListNotOfTheForm = answered 16 0 0
-regrouping_says regrouping.CountNotTheNumberOfPayments = answered 17 0 0
-regrouping_says (regrouping.OrdinalTooLarge k) = answered 18 k 0
-regrouping_says (regrouping.NamedBefore k) = answered 19 k 0
-regrouping_says (regrouping.FieldsDiffer k field) = answered 20 k field
+unfoldable pub regrouping_says : Result Unit NotRegrouped → RegroupingAnswer
+regrouping_says (Ok tt) = answered 0 0 0
+regrouping_says (Err (FirstRefused fault)) = message_refused 1 (refusal_of fault)
+regrouping_says (Err (SecondRefused fault)) = message_refused 2 (refusal_of fault)
+regrouping_says (Err NumbersOfPaymentsDiffer) = answered 15 0 0
+regrouping_says (Err ListNotOfTheForm) = answered 16 0 0
+regrouping_says (Err CountNotTheNumberOfPayments) = answered 17 0 0
+regrouping_says (Err (OrdinalTooLarge k)) = answered 18 k 0
+regrouping_says (Err (NamedBefore k)) = answered 19 k 0
+regrouping_says (Err (FieldsDiffer k field)) = answered 20 k field
+
+-- a number of the code that may be absent
+unfoldable pub perhaps : code.Option ℕ → Option ℕ
+perhaps None = none
+perhaps (Some n) = some n

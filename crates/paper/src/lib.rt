@@ -39,28 +39,20 @@ pub enum Fault {
     SumDiffers { element: usize, offset: usize },
 }
 
-// What a stage of checks finds.
+// What the reader says of a message that it accepts.
 #[derive(Clone, Copy)]
-pub enum Finding {
-    Nothing,
-    Refused(Fault),
+pub struct Accepted {
+    pub blocks: usize,
+    pub payments: usize,
+    pub cents: u64,
 }
 
 // What the reader says of a message.
-#[derive(Clone, Copy)]
-pub enum Verdict {
-    Accepted {
-        blocks: usize,
-        payments: usize,
-        cents: u64,
-    },
-    Refused(Fault),
-}
+pub type Verdict = Result<Accepted, Fault>;
 
-// What is said of two messages and a list.
+// Why one message does not regroup another by a list.
 #[derive(Clone, Copy)]
-pub enum Regrouping {
-    Accepted,
+pub enum NotRegrouped {
     FirstRefused(Fault),
     SecondRefused(Fault),
     NumbersOfPaymentsDiffer,
@@ -70,3 +62,6 @@ pub enum Regrouping {
     NamedBefore { k: usize },
     FieldsDiffer { k: usize, field: usize },
 }
+
+// What is said of two messages and a list.
+pub type Regrouping = Result<(), NotRegrouped>;

@@ -3,152 +3,121 @@
 // begins with `v` or `r` has two lines more: what they give where the message, or the first message, is archived.
 #![tactic(auto)]
 
-ghost use Rattle.std.specs.Prelude.{◌<◌, length};
-
 use paper::Profile;
 use std::io;
 use std::rt::Files;
+use verdict_answers::{OfMessage, OfRegrouping};
 
-fn in_profile(instant: bool, archived: bool) -> Profile {
-    Profile { instant, archived }
+// What a case asks for.
+#[derive(Clone, Copy)]
+enum Asked<'a> {
+    Verdict {
+        message: &'a [u8],
+    },
+    Regrouping {
+        first: &'a [u8],
+        second: &'a [u8],
+        list: &'a [u8],
+    },
 }
 
-fn is_regrouping(kind: u8) -> bool {
-    if kind == b'R' {
-        return true;
-    }
-    kind == b'r'
+#[derive(Clone, Copy)]
+struct Case<'a> {
+    name: &'a [u8],
+    archived_too: bool,
+    asked: Asked<'a>,
 }
 
-fn is_archived_too(kind: u8) -> bool {
-    if kind == b'v' {
-        return true;
-    }
-    kind == b'r'
-}
-
-// The verdict of the message at an offset. Answers the offset of the next case.
-fn verdict_at(
-    rt: &impl Print,
-    profile: Profile,
-    s: &[u8],
-    at: usize,
-    table: &mut [u32],
-) -> io::Result<usize> {
-    let message = run_frames::part_at(s, at);
-    let a = message.start;
-    let b = message.end;
-    run_printing::message(
-        rt,
-        verdict_answers::of_message(verdict_reader::verdict(profile, &s[a..b], table)),
-    )?;
-    Ok(b + 2)
-}
-
-// The regrouping of the parts at an offset. Answers the offset of the next case.
-fn regrouping_at(rt: &impl Print, profile: Profile, s: &[u8], at: usize) -> io::Result<usize> {
+// The messages that a case of this kind has at an offset, and the offset of the next case.
+fn asked_at(s: &[u8], kind: u8, at: usize) -> (Asked<'_>, usize) {
     let first = run_frames::part_at(s, at);
-    let a = first.start;
-    let b = first.end;
-    let second = run_frames::part_at(s, b + 1);
-    let c = second.start;
-    let d = second.end;
-    let list = run_frames::part_at(s, d + 1);
-    let e = list.start;
-    let f = list.end;
-    let answer = move_regrouping::regroup(profile, &s[a..b], &s[c..d], &s[e..f]);
-    run_printing::regrouping(rt, verdict_answers::of_regrouping(answer))?;
-    Ok(f + 2)
+    if !matches!(kind, b'R' | b'r') {
+        let next = first.end + 2;
+        return (Asked::Verdict { message: &s[first] }, next);
+    }
+    let second = run_frames::part_at(s, first.end + 1);
+    let list = run_frames::part_at(s, second.end + 1);
+    let next = list.end + 2;
+    let asked = Asked::Regrouping {
+        first: &s[first],
+        second: &s[second],
+        list: &s[list],
+    };
+    (asked, next)
 }
 
-// The answer to the case at an offset, after its name and some more words. Answers the offset of the next case.
-fn answer_at(
-    rt: &impl Print,
-    profile: Profile,
-    words: &[u8],
-    s: &[u8],
-    at: usize,
-    table: &mut [u32],
-) -> io::Result<usize>
-    requires { at < length s.now }
-{
-    let kind = s[at];
+// The case at an offset, if one begins there, and the offset of the next.
+fn case_at(s: &[u8], at: usize) -> Option<(Case<'_>, usize)> {
+    let kind = *s.get(at)?;
     let name = run_frames::part_at(s, at + 1);
-    let a = name.start;
-    let b = name.end;
-    run_printing::text(rt, &s[a..b])?;
-    run_printing::text(rt, words)?;
-    if is_regrouping(kind) {
-        return regrouping_at(rt, profile, s, b + 1);
-    }
-    verdict_at(rt, profile, s, b + 1, table)
+    let (asked, next) = asked_at(s, kind, name.end + 1);
+    let case = Case {
+        name: &s[name],
+        archived_too: matches!(kind, b'v' | b'r'),
+        asked,
+    };
+    Some((case, next))
 }
 
-// The answers to the case at an offset in both profiles. Answers the offset of the next case.
-fn in_both(
+// The line of a case in a profile: its name, some more words, and the answer.
+fn answer(
     rt: &impl Print,
-    archived: bool,
-    first: &[u8],
-    instant: &[u8],
-    s: &[u8],
-    at: usize,
+    case: Case<'_>,
+    words: &[u8],
+    profile: Profile,
     table: &mut [u32],
-) -> io::Result<usize>
-    requires { at < length s.now }
-{
-    answer_at(rt, in_profile(false, archived), first, s, at, table)?;
-    answer_at(rt, in_profile(true, archived), instant, s, at, table)
-}
-
-// The case at an offset. Answers the offset of the next.
-fn case_at(rt: &impl Print, s: &[u8], at: usize, table: &mut [u32]) -> io::Result<usize>
-    requires { at < length s.now }
-{
-    let next = in_both(rt, false, b": ", b", instant: ", s, at, table)?;
-    if is_archived_too(s[at]) {
-        in_both(
-            rt,
-            true,
-            b", archived: ",
-            b", instant, archived: ",
-            s,
-            at,
-            table,
-        )?;
-    }
-    Ok(next)
-}
-
-fn run(rt: &impl Print, s: &[u8], table: &mut [u32]) -> io::Result<()> {
-    let mut at = 0;
-    let mut turns: u32 = 10000;
-    while turns > 0 {
-        if at >= s.len() {
-            return Ok(());
+) -> io::Result<()> {
+    run_printing::text(rt, case.name)?;
+    run_printing::text(rt, words)?;
+    match case.asked {
+        Asked::Verdict { message } => {
+            let verdict = verdict_reader::verdict(profile, message, table);
+            run_printing::message(rt, OfMessage::from(verdict))
         }
-        at = case_at(rt, s, at, table)?;
-        turns -= 1;
+        Asked::Regrouping {
+            first,
+            second,
+            list,
+        } => {
+            let regrouping = move_regrouping::regroup(profile, first, second, list);
+            run_printing::regrouping(rt, OfRegrouping::from(regrouping))
+        }
+    }
+}
+
+// All lines of a case.
+fn answers(rt: &impl Print, case: Case<'_>, table: &mut [u32]) -> io::Result<()> {
+    let of = |instant, archived| Profile { instant, archived };
+    answer(rt, case, b": ", of(false, false), table)?;
+    answer(rt, case, b", instant: ", of(true, false), table)?;
+    if case.archived_too {
+        answer(rt, case, b", archived: ", of(false, true), table)?;
+        answer(rt, case, b", instant, archived: ", of(true, true), table)?;
     }
     Ok(())
 }
 
-fn run_file<R: Files + Print>(
-    rt: &R,
-    errors: &impl Print,
-    path: &[u8],
-    buffer: &mut [u8],
-    table: &mut [u32],
-) -> io::Result<()> {
-    let n = run_frames::load(rt, errors, path, buffer)?;
-    run(rt, &buffer[..n], table)
+// The first 10000 cases of a file. (`run_form` says why each program has such a loop of its own.)
+fn run(rt: &impl Print, s: &[u8], table: &mut [u32]) -> io::Result<()> {
+    let mut at = 0;
+    for _ in 0..10000 {
+        let Some((case, next)) = case_at(s, at) else {
+            break;
+        };
+        answers(rt, case, table)?;
+        at = next;
+    }
+    Ok(())
 }
 
 fn main(rt: HostRuntime) -> io::Result<()> {
     let errors = rt.stderr();
     let mut buffer = [0u8; 65536];
     let mut table = [0u32; paper::LEAST_TABLE];
-    run_file(&rt, &errors, b"whole-6.1", &mut buffer, &mut table)?;
-    run_file(&rt, &errors, b"whole-6.2", &mut buffer, &mut table)?;
-    run_file(&rt, &errors, b"snippets", &mut buffer, &mut table)?;
-    run_file(&rt, &errors, b"regroupings", &mut buffer, &mut table)
+    let files: [&[u8]; 4] = [b"whole-6.1", b"whole-6.2", b"snippets", b"regroupings"];
+    for path in files {
+        let n = run_frames::load(&rt, &errors, path, &mut buffer)?;
+        run(&rt, &buffer[..n], &mut table)?;
+    }
+    Ok(())
 }

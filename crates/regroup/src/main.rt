@@ -7,8 +7,10 @@ ghost use Rattle.std.specs.Io.{ReadsAtMost};
 use paper::Profile;
 use std::io;
 use std::rt::Files;
+use verdict_answers::OfRegrouping;
 
 // What the file holds, as much as the buffer takes; nothing where it can't be opened.
+// (`run_frames::load` says on standard error why; this program says nothing.)
 fn load<R: Files>(rt: &R, path: &[u8], buf: &mut [u8]) -> io::Result<usize>
     ensures { ReadsAtMost result buf.new }
 {
@@ -18,19 +20,6 @@ fn load<R: Files>(rt: &R, path: &[u8], buf: &mut [u8]) -> io::Result<usize>
     }
 }
 
-fn report(
-    rt: &impl Print,
-    profile: Profile,
-    first: &[u8],
-    second: &[u8],
-    list: &[u8],
-) -> io::Result<()> {
-    run_printing::regrouping(
-        rt,
-        verdict_answers::of_regrouping(move_regrouping::regroup(profile, first, second, list)),
-    )
-}
-
 fn answer<R: Files + Print>(rt: &R, profile: Profile) -> io::Result<()> {
     let mut first = [0u8; 32769];
     let mut second = [0u8; 32769];
@@ -38,7 +27,8 @@ fn answer<R: Files + Print>(rt: &R, profile: Profile) -> io::Result<()> {
     let n = load(rt, b"first.xml", &mut first)?;
     let m = load(rt, b"second.xml", &mut second)?;
     let l = load(rt, b"list.rgl", &mut list)?;
-    report(rt, profile, &first[..n], &second[..m], &list[..l])
+    let answer = move_regrouping::regroup(profile, &first[..n], &second[..m], &list[..l]);
+    run_printing::regrouping(rt, OfRegrouping::from(answer))
 }
 
 fn main(rt: HostRuntime) -> io::Result<()> {
@@ -46,9 +36,8 @@ fn main(rt: HostRuntime) -> io::Result<()> {
         instant: false,
         archived: false,
     };
-    let asked = run_words::asked(&rt, &rt.stderr(), own, true)?;
-    if asked.known {
-        answer(&rt, asked.profile)?;
+    match run_words::asked(&rt, &rt.stderr(), own, true)? {
+        Some(profile) => answer(&rt, profile),
+        None => Ok(()),
     }
-    Ok(())
 }

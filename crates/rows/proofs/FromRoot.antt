@@ -1,5 +1,5 @@
 -- What the walk from the root promises, since its numbers stand for the rows of the profile.
-use Rattle.std.specs.Prelude.{if◌then◌else◌}
+use Rattle.std.specs.Prelude.{if◌then◌else◌, Result}
 use Prim.Native.Nat.{ℕ, ◌<◌, ◌≤◌}
 use mathlib.Core.List.{List, [], ◌∷◌}
 use mathlib.Core.Bool.{Bool, true, false}
@@ -11,7 +11,7 @@ use Rattle.paper.specs.Rows.{Row, Profile, for_new, for_archived, profile_by, ro
 use Rattle.paper.specs.Values.{among}
 use Rattle.paper.specs.Refusals.{Judgement, walk, only_white, no_judgement, value_refusal, rows_refusal, values_refusal}
 use Rattle.paper.specs.Answers.{profile_named, refusal_found}
-use Rattle.paper.specs.declared.Finding.{Finding}
+use Rattle.paper.specs.declared.Fault.{Fault}
 use Rattle.paper.specs.declared.Profile as named
 use Rattle.tree.specs.Laid.{between, Entry}
 use Rattle.tree.proofs.Laws.{Cell}
@@ -64,7 +64,7 @@ one_stays Rows = refl
 one_stays ArchivedValues = refl
 one_stays NewValues = refl
 
-module _ (profile : named.Profile) (s tree : List ℕ) {rows places : List (List ℕ)} (judging : Bool) (f : Finding)
+module _ (profile : named.Profile) (s tree : List ℕ) {rows places : List (List ℕ)} (judging : Bool) (f : Result Unit Fault)
     (p : rows ≡ entries_of profile.instant) (q : places ≡ all_places) where
   one : of_entry rows 0 0 ≡ 1
   one = ap (λ r. of_entry r 0 0) p ∙ first_entry profile.instant

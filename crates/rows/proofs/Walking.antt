@@ -1,7 +1,8 @@
 -- Laws about the walk itself: an element by what it holds, and a group's children one after the other.
+use Rattle.std.specs.Prelude.{Result, Ok, Err}
 use Prim.Native.Nat.{ℕ, ◌+◌, ◌<◌, ◌≤◌}
 use mathlib.Core.List.{List}
-use mathlib.Core.Bool.{Bool, true, false}
+use mathlib.Core.Bool.{true, false}
 use mathlib.Core.Option.{Option, none, some}
 use mathlib.Core.Path.{◌≡◌, refl, sym, ap, ◌∙◌}
 use native.Mathlib.Omega.{arith}
@@ -12,8 +13,6 @@ use Rattle.paper.specs.Rows.{name, name_in, rows as the_rows, instant_changes, e
 use Rattle.paper.specs.Values.{among}
 use Rattle.paper.specs.Refusals.{Refusal, refuse, ◌or_else◌, ends, only_white, first_at, Sought, never, early, found, seek, Left, from_here, Judgement, walk, walk_all}
 use Rattle.paper.specs.Answers.{refusal_found, refusal_of, numbered}
-use Rattle.paper.specs.declared.Finding.{Finding}
-use Rattle.paper.specs.declared.Finding.TheVariants.{Nothing, Refused}
 use Rattle.paper.specs.declared.Fault.{Fault}
 use Rattle.paper.specs.declared.Fault.TheVariants.{NotAllowedThere, Withdrawn}
 use Rattle.paper.proofs.Laws.{false_not_true, none_or_else, or_else_none}
@@ -25,8 +24,10 @@ use Rattle.rows_contents.specs.Judged.{withdrawn_by, at_text, judgement, Judged}
 use Rattle.rows_contents.specs.declared.Judging.{Judging}
 use Rattle.rows_contents.proofs.Judgings.{withdrawn_refused, group_judged, elements_judged, leaf_judged}
 use Rattle.rows.specs.Walk.{unless_found, Walks, WalksAll}
-use Rattle.rows_places.specs.declared.Sought.{Sought as Sought'}
-use Rattle.rows_places.specs.declared.Sought.TheVariants as sought
+use Rattle.rows_places.specs.declared.Left as code
+use Rattle.rows_places.specs.declared.Placed.{Placed}
+use Rattle.rows_places.specs.declared.Unplaced.{Unplaced}
+use Rattle.rows_places.specs.declared.Unplaced.TheVariants.{Never, Early}
 
 -- what an entry holds
 module _ (rows places : List (List ℕ)) (e : ℕ) where
@@ -122,153 +123,155 @@ module _ (profile : Profile) (judge : Judgement) (t : Element) (ts : Elements) (
   child_step e = ap (λ (q : Sought). after q) e
 
 -- The children of a group as entry e that are left, from one on, and the places left for them: the walk goes on with them as it would with all.
-pub record Remaining (profile : Profile) (s tree : List ℕ) (rows places : List (List ℕ)) (judging : Judging) (e row to : ℕ) (h : Head) (ts : Elements) (next from : ℕ) (seen : Bool)
+pub record Remaining (profile : Profile) (s tree : List ℕ) (rows places : List (List ℕ)) (judging : Judging) (e row : ℕ) (h : Head) (ts : Elements) (next : ℕ) (left : code.Left)
     (child : ℕ) : Type 0 where
   pub rest : Elements
   pub laid : LaidAll s tree rest child next
-  pub from_first : of_entry rows e 4 ≤ from
-  pub seen_inside : seen ≡ true → from < to
+  pub from_first : of_entry rows e 4 ≤ left.from
+  pub to_is : left.to ≡ of_entry rows e 5
+  pub seen_inside : left.seen ≡ true → left.from < left.to
   pub goes_on :
       walk_all profile (judgement judging) ts (holding_elements h ts) (of_entry rows e 0) (from_here (places_of rows places e)) h.close ≡
-      walk_all profile (judgement judging) rest (holding_elements h ts) row (places_left rows places from seen to) h.close
+      walk_all profile (judgement judging) rest (holding_elements h ts) row (places_left rows places left.from left.seen left.to) h.close
 
 -- The walk among the children of element i as entry e, before a child: what the code has read of both, and what remains.
-pub record Among (s tree : List ℕ) (rows places : List (List ℕ)) (judging : Judging) (i e row to next from : ℕ) (seen : Bool) (child : ℕ) : Type 0 where
+pub record Among (s tree : List ℕ) (rows places : List (List ℕ)) (judging : Judging) (i e row next : ℕ) (left : code.Left) (child : ℕ) : Type 0 where
   pub child_behind : i < child
   pub row_is : row ≡ of_entry rows e 0
-  pub to_is : to ≡ of_entry rows e 5
   pub next_is : Cell tree i 4 next
   pub remaining : (profile : Profile) → Stands profile rows places → (h : Head) (n : ℕ) → Entry s tree i h n → (ts : Elements) → LaidAll s tree ts (i + 1) n
-      → Remaining profile s tree rows places judging e row to h ts n from seen child
+      → Remaining profile s tree rows places judging e row h ts n left child
 
 -- before the first child
-pub group_starts : {s tree : List ℕ} {rows places : List (List ℕ)} {judging : Judging} {i e row to next from : ℕ} → row ≡ of_entry rows e 0 → to ≡ of_entry rows e 5
-    → from ≡ of_entry rows e 4 → Cell tree i 4 next → Among s tree rows places judging i e row to next from false (i + 1)
+pub group_starts : {s tree : List ℕ} {rows places : List (List ℕ)} {judging : Judging} {i e row next from to : ℕ} → row ≡ of_entry rows e 0 → from ≡ of_entry rows e 4
+    → to ≡ of_entry rows e 5 → Cell tree i 4 next → Among s tree rows places judging i e row next (record { from = from; seen = false; to = to }) (i + 1)
 unfolding places_of places_left
-group_starts p q r c =
+group_starts p r q c =
     record {
       child_behind = omega arith;
       row_is = p;
-      to_is = q;
       next_is = c;
       remaining = λ profile st h n entry ts l.
-          record { rest = ts; laid = l; from_first = omega arith; seen_inside = λ f. false_not_true f; goes_on = rw (p, q, r) };
+          record { rest = ts; laid = l; from_first = omega arith; to_is = q; seen_inside = λ f. false_not_true f; goes_on = rw (p, q, r) };
     }
 
 -- one child
-module _ {s tree : List ℕ} {rows places : List (List ℕ)} {judging : Judging} {i e row to next from : ℕ} {seen : Bool} {child : ℕ}
-    (among : Among s tree rows places judging i e row to next from seen child) (inside : child < next) where
+module _ {s tree : List ℕ} {rows places : List (List ℕ)} {judging : Judging} {i e row next : ℕ} {left : code.Left} {child : ℕ}
+    (among : Among s tree rows places judging i e row next left child) (inside : child < next) where
   module _ {profile : Profile} (st : Stands profile rows places) {h : Head} {n : ℕ} (entry : Entry s tree i h n) {ts : Elements} (l : LaidAll s tree ts (i + 1) n) where
-    abbrev left : Remaining profile s tree rows places judging e row to h ts n from seen child
-    left = among.remaining profile st h n entry ts l
+    abbrev rem : Remaining profile s tree rows places judging e row h ts n left child
+    rem = among.remaining profile st h n entry ts l
 
-    abbrev it : Sibling s tree left.rest child n
-    it = sibling left.laid (omega (arith, next_cell entry among.next_is, inside))
+    abbrev it : Sibling s tree rem.rest child n
+    it = sibling rem.laid (omega (arith, next_cell entry among.next_is, inside))
 
     child_entry : Entry s tree child (head_of it.one) it.middle
     child_entry = entry_of it.laid
 
-    with_it : {q : Sought} → seek (places_left rows places from seen to) (head_of it.one).name ≡ q
+    with_it : {q : Sought} → seek (places_left rows places left.from left.seen left.to) (head_of it.one).name ≡ q
         → walk_all profile (judgement judging) ts (holding_elements h ts) (of_entry rows e 0) (from_here (places_of rows places e)) h.close
-        ≡ after profile (judgement judging) it.one it.others (holding_elements h ts) row (places_left rows places from seen to) h.close q
+        ≡ after profile (judgement judging) it.one it.others (holding_elements h ts) row (places_left rows places left.from left.seen left.to) h.close q
     with_it q =
-        left.goes_on ∙ ap (λ (us : Elements). walk_all profile (judgement judging) us (holding_elements h ts) row (places_left rows places from seen to) h.close) it.are ∙
-        child_step profile (judgement judging) it.one it.others (holding_elements h ts) row (places_left rows places from seen to) h.close q
+        rem.goes_on ∙ ap (λ (us : Elements). walk_all profile (judgement judging) us (holding_elements h ts) row (places_left rows places left.from left.seen left.to) h.close) it.are ∙
+        child_step profile (judgement judging) it.one it.others (holding_elements h ts) row (places_left rows places left.from left.seen left.to) h.close q
 
-    resolved : ResolvedBetween profile rows places row from to
+    resolved : ResolvedBetween profile rows places row left.from left.to
     resolved k low high =
-        let start : of_entry rows e 4 ≤ k = omega (arith, left.from_first, low) in
-        let end : k < of_entry rows e 5 = omega (arith, among.to_is, high) in
+        let start : of_entry rows e 4 ≤ k = omega (arith, rem.from_first, low) in
+        let end : k < of_entry rows e 5 = omega (arith, rem.to_is, high) in
         rw among.row_is (record { first_stands = st.first_stands e k start end; second_stands = st.second_stands e k start end })
 
-    module _ (q : Sought') (seeks : SeekPromise tree rows places child from seen to q) where
-      there : Seeks profile rows places row (head_of it.one).name (places_left rows places from seen to) from to q
-      there = seeks profile row s (head_of it.one) it.middle resolved left.seen_inside child_entry
+    module _ (q : Result Placed Unplaced) (seeks : SeekPromise tree rows places child left.from left.seen left.to q) where
+      there : Seeks profile rows places row (head_of it.one).name (places_left rows places left.from left.seen left.to) left.from left.to q
+      there = seeks profile row s (head_of it.one) it.middle resolved rem.seen_inside child_entry
 
-      not_there : {at : ℕ} {o : Option Refusal} → ((d p : ℕ) (m : Bool) → q ≡ sought.Found d p m → ⊥) → Cell tree child 0 at → o ≡ unless_found row at q
+      not_there : {at : ℕ} {o : Option Refusal} (u : Unplaced) → q ≡ Err u → Cell tree child 0 at → o ≡ unless_found row at (Err u)
           → o ≡ walk_all profile (judgement judging) ts (holding_elements h ts) (of_entry rows e 0) (from_here (places_of rows places e)) h.close
       unfolding Seeks unless_found
-      not_there {at} {o} none_found c f = go q refl there f
+      not_there {at} {o} u q_is c f = go u (rw q_is at there) f
         where
-          go : (r : Sought') → q ≡ r → Seeks profile rows places row (head_of it.one).name (places_left rows places from seen to) from to r → o ≡ unless_found row at r
+          go : (u : Unplaced) → Seeks profile rows places row (head_of it.one).name (places_left rows places left.from left.seen left.to) left.from left.to (Err u) → o ≡ unless_found row at (Err u)
               → o ≡ walk_all profile (judgement judging) ts (holding_elements h ts) (of_entry rows e 0) (from_here (places_of rows places e)) h.close
-          go sought.Never _ sk g = g ∙ rw (at_cell child_entry c) (sym (with_it sk))
-          go (sought.Early k) _ sk g = g ∙ rw (at_cell child_entry c) (sym (with_it sk))
-          go (sought.Found d p m) r sk g = absurd (none_found d p m r)
+          go Never sk g = g ∙ rw (at_cell child_entry c) (sym (with_it sk))
+          go (Early k) sk g = g ∙ rw (at_cell child_entry c) (sym (with_it sk))
 
-      module _ {d p : ℕ} {m : Bool} (q_is : q ≡ sought.Found d p m) (f : Finding) (walks : Walks s tree rows places judging row child d f) where
-        found_there : Seeks profile rows places row (head_of it.one).name (places_left rows places from seen to) from to (sought.Found d p m)
+      module _ {placed : Placed} (q_is : q ≡ Ok placed) (f : Result Unit Fault) (walks : Walks s tree rows places judging row child placed.entry f) where
+        found_there : Seeks profile rows places row (head_of it.one).name (places_left rows places left.from left.seen left.to) left.from left.to (Ok placed)
         found_there = rw q_is at there
 
-        rises : of_entry rows e 4 ≤ p
+        rises : of_entry rows e 4 ≤ placed.left.from
         unfolding Seeks
-        rises = omega (arith, left.from_first, found_there.0)
+        rises = omega (arith, rem.from_first, found_there.0)
 
-        stays : m ≡ true → p < to
+        stays : placed.left.seen ≡ true → placed.left.from < left.to
         unfolding Seeks
         stays = found_there.1
 
+        to_stays : placed.left.to ≡ left.to
+        unfolding Seeks
+        to_stays = found_there.2
+
         -- row 42 is named InstdAmt
-        amount_named : of_entry rows d 0 ≡ 42 → (head_of it.one).name ≡ bytes "InstdAmt"
+        amount_named : of_entry rows placed.entry 0 ≡ 42 → (head_of it.one).name ≡ bytes "InstdAmt"
         unfolding Seeks name name_in the_rows instant_changes every_row leaf group group_under bytes
-        amount_named k = found_there.2.name_is ∙ ap name k
+        amount_named k = found_there.3.name_is ∙ ap name k
 
         below : walk_all profile (judgement judging) ts (holding_elements h ts) (of_entry rows e 0) (from_here (places_of rows places e)) h.close
-            ≡ refusal_found f or_else walk_all profile (judgement judging) it.others (holding_elements h ts) row (places_left rows places p m to) h.close
+            ≡ refusal_found f or_else walk_all profile (judgement judging) it.others (holding_elements h ts) row (places_left rows places placed.left.from placed.left.seen left.to) h.close
         unfolding Seeks
         below =
-            with_it found_there.3 ∙
-            ap (λ (r : Row). walk profile (judgement judging) it.one (some (holding_elements h ts)) row r or_else walk_all profile (judgement judging) it.others (holding_elements h ts) row (places_left rows places p m to) h.close)
-            found_there.2.row_is ∙
-            ap (λ (o : Option Refusal). o or_else walk_all profile (judgement judging) it.others (holding_elements h ts) row (places_left rows places p m to) h.close)
+            with_it found_there.4 ∙
+            ap (λ (r : Row). walk profile (judgement judging) it.one (some (holding_elements h ts)) row r or_else walk_all profile (judgement judging) it.others (holding_elements h ts) row (places_left rows places placed.left.from placed.left.seen left.to) h.close)
+            found_there.3.row_is ∙
+            ap (λ (o : Option Refusal). o or_else walk_all profile (judgement judging) it.others (holding_elements h ts) row (places_left rows places placed.left.from placed.left.seen left.to) h.close)
             (sym (walks profile st it.one it.middle it.laid amount_named (some (holding_elements h ts))))
 
-        refused : {fault : Fault} → f ≡ Refused fault
-            → refusal_found (Refused fault) ≡ walk_all profile (judgement judging) ts (holding_elements h ts) (of_entry rows e 0) (from_here (places_of rows places e)) h.close
+        refused : {fault : Fault} → f ≡ Err fault
+            → refusal_found (Err fault) ≡ walk_all profile (judgement judging) ts (holding_elements h ts) (of_entry rows e 0) (from_here (places_of rows places e)) h.close
         unfolding refusal_found ◌or_else◌
         refused g = sym (below ∙ rw g)
 
-        passed : f ≡ Nothing → {after : ℕ} → Cell tree child 4 after → Remaining profile s tree rows places judging e row to h ts n p m after
+        passed : f ≡ Ok tt → {after : ℕ} → Cell tree child 4 after → Remaining profile s tree rows places judging e row h ts n placed.left after
         unfolding refusal_found ◌or_else◌
         passed g c =
-            record { rest = it.others; laid = rw (next_cell child_entry c) it.laid_behind; from_first = rises; seen_inside = stays; goes_on = below ∙ rw g }
+            record { rest = it.others; laid = rw (next_cell child_entry c) it.laid_behind; from_first = rises; to_is = to_stays ∙ rem.to_is; seen_inside = rw to_stays stays; goes_on = rw to_stays (below ∙ rw g) }
 
-  pub no_way_back : {after : ℕ} → Cell tree child 4 after → after ≤ child → (f : Finding) → WalksAll s tree rows places judging i e f
+  pub no_way_back : {after : ℕ} → Cell tree child 4 after → after ≤ child → (f : Result Unit Fault) → WalksAll s tree rows places judging i e f
   no_way_back c back f profile st h n entry ts l =
       let e = child_entry st entry l in absurd (omega (arith, next_cell e c, e.numbers.after_it, back))
 
-  module _ (q : Sought') (seeks : SeekPromise tree rows places child from seen to q) where
-    pub child_not_found : {at : ℕ} → ((d p : ℕ) (m : Bool) → q ≡ sought.Found d p m → ⊥) → Cell tree child 0 at → (f : Finding) → refusal_found f ≡ unless_found row at q
-        → WalksAll s tree rows places judging i e f
-    child_not_found none_found c f u profile st h n entry ts l = not_there st entry l q seeks none_found c u
+  pub child_not_found : (u : Unplaced) → SeekPromise tree rows places child left.from left.seen left.to (Err u) → {at : ℕ} → Cell tree child 0 at
+      → (fault : Fault) → refusal_found (Err fault) ≡ unless_found row at (Err u) → WalksAll s tree rows places judging i e (Err fault)
+  child_not_found u seeks c fault f profile st h n entry ts l = not_there st entry l (Err u) seeks u refl c f
 
-    module _ {d p : ℕ} {m : Bool} (q_is : q ≡ sought.Found d p m) (f : Finding) (walks : Walks s tree rows places judging row child d f) where
-      pub child_refused : {fault : Fault} → f ≡ Refused fault → WalksAll s tree rows places judging i e (Refused fault)
-      child_refused g profile st h n entry ts l = refused st entry l q seeks q_is f walks g
+  module _ (placed : Placed) (seeks : SeekPromise tree rows places child left.from left.seen left.to (Ok placed)) (f : Result Unit Fault)
+      (walks : Walks s tree rows places judging row child placed.entry f) where
+    pub child_refused : {fault : Fault} → f ≡ Err fault → WalksAll s tree rows places judging i e (Err fault)
+    child_refused g profile st h n entry ts l = refused st entry l (Ok placed) seeks refl f walks g
 
-      pub child_passed : {after : ℕ} → f ≡ Nothing → Cell tree child 4 after → child < after → Among s tree rows places judging i e row to next p m after
-      child_passed g c on =
-          record {
-            child_behind = omega (arith, among.child_behind, on);
-            row_is = among.row_is;
-            to_is = among.to_is;
-            next_is = among.next_is;
-            remaining = λ profile st h n entry ts l. passed st entry l q seeks q_is f walks g c;
-          }
+    pub child_passed : {after : ℕ} → f ≡ Ok tt → Cell tree child 4 after → child < after
+        → Among s tree rows places judging i e row next placed.left after
+    child_passed g c on =
+        record {
+          child_behind = omega (arith, among.child_behind, on);
+          row_is = among.row_is;
+          next_is = among.next_is;
+          remaining = λ profile st h n entry ts l. passed st entry l (Ok placed) seeks refl f walks g c;
+        }
 
 -- behind the last child
-pub group_ends : {s tree : List ℕ} {rows places : List (List ℕ)} {judging : Judging} {i e row to next from : ℕ} {seen : Bool} {child : ℕ}
-    → Among s tree rows places judging i e row to next from seen child → next ≤ child → {close : ℕ} → Cell tree i 3 close
-    → (f : Finding) → refusal_found f ≡ ends (places_left rows places from seen to) close → WalksAll s tree rows places judging i e f
+pub group_ends : {s tree : List ℕ} {rows places : List (List ℕ)} {judging : Judging} {i e row next : ℕ} {left : code.Left} {child : ℕ}
+    → Among s tree rows places judging i e row next left child → next ≤ child → {close : ℕ} → Cell tree i 3 close
+    → (f : Result Unit Fault) → refusal_found f ≡ ends (places_left rows places left.from left.seen left.to) close → WalksAll s tree rows places judging i e f
 unfolding walk
 group_ends among past c f g profile st h n entry ts l =
-    let left = among.remaining profile st h n entry ts l in
-    g ∙ rw (close_cell entry c) (sym (left.goes_on ∙ rw (no_sibling left.laid (omega (arith, next_cell entry among.next_is, past)))))
+    let rem = among.remaining profile st h n entry ts l in
+    g ∙ rw (close_cell entry c) (sym (rem.goes_on ∙ rw (no_sibling rem.laid (omega (arith, next_cell entry among.next_is, past)))))
 
 -- element i as entry e, by what the code has read of both
 module _ (s tree : List ℕ) (rows places : List (List ℕ)) (judging : Judging) (parent i e : ℕ) {row : ℕ} (row_is : row ≡ of_entry rows e 0) where
   -- its row is withdrawn
-  pub withdrawn : {at : ℕ} → among row (withdrawn_by judging) ≡ true → Cell tree i 0 at → Walks s tree rows places judging parent i e (Refused (Withdrawn row at))
+  pub withdrawn : {at : ℕ} → among row (withdrawn_by judging) ≡ true → Cell tree i 0 at → Walks s tree rows places judging parent i e (Err (Withdrawn row at))
   unfolding row_at refusal_found refusal_of numbered refuse head_of
   withdrawn w at_is profile st _ next (laid_text {h = h} {w = v} entry n w_is) amount holder =
       rw (row_is, at_cell entry at_is)
@@ -285,7 +288,7 @@ module _ (s tree : List ℕ) (rows places : List (List ℕ)) (judging : Judging)
     unfolding row_at
     row_stays = rw (← row_is) stays
 
-    pub text_in_group : (f : Finding) → following ≤ i + 1 → longest ≡ 0
+    pub text_in_group : (f : Result Unit Fault) → following ≤ i + 1 → longest ≡ 0
         → ((h : Head) (n : ℕ) → Entry s tree i h n → refusal_found f ≡ only_white (of_entry rows e 0) (places_of rows places e) h (between h.start h.close s))
         → Walks s tree rows places judging parent i e f
     unfolding row_at
@@ -296,7 +299,7 @@ module _ (s tree : List ℕ) (rows places : List (List ℕ)) (judging : Judging)
         (group_judged judging holder parent (row_at rows places e) row_stays (holding_text h w) _ holds))
     text_in_group f short none_long g profile st _ next (laid_elements entry more all) amount holder = absurd (omega (arith, next_cell entry following_is))
 
-    pub text_in_leaf : (f : Finding) → following ≤ i + 1 → (longest ≡ 0 → ⊥) → Judged (at_text judging) s tree parent i row longest f
+    pub text_in_leaf : (f : Result Unit Fault) → following ≤ i + 1 → (longest ≡ 0 → ⊥) → Judged (at_text judging) s tree parent i row longest f
         → Walks s tree rows places judging parent i e f
     unfolding row_at head_of longest_of
     text_in_leaf f short long g profile st _ next (laid_text {h = h} {w = w} entry n w_is) amount holder =
@@ -307,7 +310,7 @@ module _ (s tree : List ℕ) (rows places : List (List ℕ)) (judging : Judging)
         (leaf_judged judging holder parent (row_at rows places e) row_stays h w _ holds))
     text_in_leaf f short long g profile st _ next (laid_elements entry more all) amount holder = absurd (omega (arith, next_cell entry following_is))
 
-    pub elements_in_group : (f : Finding) → i + 1 < following → longest ≡ 0 → WalksAll s tree rows places judging i e f → Walks s tree rows places judging parent i e f
+    pub elements_in_group : (f : Result Unit Fault) → i + 1 < following → longest ≡ 0 → WalksAll s tree rows places judging i e f → Walks s tree rows places judging parent i e f
     unfolding row_at
     elements_in_group f many none_long g profile st _ next (laid_text entry n w_is) amount holder = absurd (omega (arith, next_cell entry following_is))
     elements_in_group f many none_long g profile st _ next (laid_elements {h = h} {ts = ts} entry more all) amount holder =
@@ -315,7 +318,7 @@ module _ (s tree : List ℕ) (rows places : List (List ℕ)) (judging : Judging)
         sym (walk_group profile (judgement judging) holder parent (row_at rows places e) h ts _ (holds_places rows places e (sym longest_is ∙ none_long))
         (elements_judged judging holder parent (row_at rows places e) row_stays h ts))
 
-    pub elements_in_leaf : {at : ℕ} → i + 1 < following → (longest ≡ 0 → ⊥) → Cell tree (i + 1) 0 at → Walks s tree rows places judging parent i e (Refused (NotAllowedThere row at))
+    pub elements_in_leaf : {at : ℕ} → i + 1 < following → (longest ≡ 0 → ⊥) → Cell tree (i + 1) 0 at → Walks s tree rows places judging parent i e (Err (NotAllowedThere row at))
     unfolding row_at refusal_found refusal_of numbered refuse
     elements_in_leaf many long at_is profile st _ next (laid_text entry n w_is) amount holder = absurd (omega (arith, next_cell entry following_is))
     elements_in_leaf many long at_is profile st _ next (laid_elements {h = h} {ts = ts} entry more all) amount holder =

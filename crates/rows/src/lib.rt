@@ -2,110 +2,106 @@
 // numbers (crates/rows_places/specs/Numbers.antt); every function but `judging_of` and `rows_refusal` is for any such profile.
 #![tactic(auto)]
 
-ghost use Rattle.std.specs.Prelude.{◌<◌, ◌≡◌};
+ghost use Rattle.std.specs.Prelude.{◌<◌, ◌≡◌, Err};
 ghost use Rattle.paper.specs.Answers.{refusal_found};
 ghost use Rattle.rows.specs.Walk.{JudgesFor, WalkPromise, Walks, WalksAll, unless_found};
 
-use paper::{Fault, Finding, Profile};
+use paper::{Fault, Profile};
 use rows_contents::Judging;
-use rows_places::{Places, Rows, Sought};
+use rows_places::{Left, Numbers, Unplaced};
 use tree::Tree;
 
-// Element i as entry e, under a parent's row.
-#[cycle(children_element)]
-fn element(
-    s: &[u8],
-    tree: &Tree,
-    rows: &Rows,
-    places: &Places,
-    judging: Judging,
-    parent: usize,
-    i: usize,
-    e: u16,
-) -> Finding
-    ensures { Walks s.now tree.now rows.now places.now judging parent i e result }
+// A child that has no place among those left in a group of this row.
+#[tactic(auto, unfolding(crate::specs::Walk::unless_found, paper::specs::Answers::refusal_found, paper::specs::Answers::refusal_of, paper::specs::Answers::numbered, paper::specs::Refusals::refuse))]
+fn not_found(unplaced: Unplaced, row: usize, at: usize) -> Fault
+    ensures { refusal_found (Err result) ≡ unless_found row at (Err unplaced) }
 {
-    if tree::ELEMENTS <= i {
-        return Finding::Nothing;
-    }
-    let row = tree::wide(rows_places::of_entry(rows, e, 0));
-    let longest = tree::wide(rows_places::of_entry(rows, e, 3));
-    if rows_contents::is_withdrawn(judging, row) {
-        return Finding::Refused(Fault::Withdrawn {
-            element: row,
-            offset: tree::cell(tree, i, 0),
-        });
-    }
-    if tree::cell(tree, i, 4) <= i + 1 {
-        if longest == 0 {
-            return rows_contents::text_in_group(s, tree, rows, places, i, e);
-        }
-        return rows_contents::leaf(s, tree, judging, parent, i, row, longest);
-    }
-    if longest == 0 {
-        return children(s, tree, rows, places, judging, i, e);
-    }
-    Finding::Refused(Fault::NotAllowedThere {
-        element: row,
-        offset: tree::cell(tree, i + 1, 0),
-    })
-}
-
-// A child that is not found among the places left in a group of this row.
-fn not_found(sought: Sought, row: usize, at: usize) -> Finding
-    ensures { refusal_found result ≡ unless_found row at sought }
-{
-    match sought {
-        Sought::Never => Finding::Refused(Fault::NotAllowedThere {
+    match unplaced {
+        Unplaced::Never => Fault::NotAllowedThere {
             element: row,
             offset: at,
-        }),
-        Sought::Early(element) => Finding::Refused(Fault::Missing {
+        },
+        Unplaced::Early(element) => Fault::Missing {
             element,
             offset: at,
-        }),
-        Sought::Found { .. } => Finding::Nothing,
+        },
     }
 }
 
-// The children of element i as entry e, one after the other.
-#[cycle(children_element)]
-fn children(
-    s: &[u8],
-    tree: &Tree,
-    rows: &Rows,
-    places: &Places,
+// A walk over one message: its text, its tree, the numbers of its profile, and what is judged of each element.
+#[derive(Clone, Copy)]
+struct Walk<'a> {
+    s: &'a [u8],
+    tree: &'a Tree,
+    numbers: &'a Numbers,
     judging: Judging,
-    i: usize,
-    e: u16,
-) -> Finding
-    requires { i < 4700 }
-    ensures { WalksAll s.now tree.now rows.now places.now judging i e result }
-{
-    let row = tree::wide(rows_places::of_entry(rows, e, 0));
-    let to = rows_places::of_entry(rows, e, 5);
-    let next = tree::cell(tree, i, 4);
-    let mut from = rows_places::of_entry(rows, e, 4);
-    let mut further = false;
-    let mut child = i + 1;
-    while child < next {
-        let after = tree::cell(tree, child, 4);
-        if after <= child {
-            return Finding::Nothing;
+}
+
+impl Walk<'_> {
+    // Element i as entry e, under a parent's row.
+    #[cycle(children_element)]
+    fn element(&self, parent: usize, i: usize, e: u16) -> Result<(), Fault>
+        ensures { Walks self.now.s.now self.now.tree.now self.now.numbers.now.rows self.now.numbers.now.places self.now.judging parent i e result }
+    {
+        if tree::ELEMENTS <= i {
+            return Ok(());
         }
-        let sought = rows_places::seek_further(tree, rows, places, child, from, further, to);
-        let Sought::Found { entry, left, seen } = sought else {
-            return not_found(sought, row, tree::cell(tree, child, 0));
-        };
-        let found = element(s, tree, rows, places, judging, row, child, entry);
-        if let Finding::Refused(fault) = found {
-            return Finding::Refused(fault);
+        let row = usize::from(rows_places::of_entry(&self.numbers.rows, e, 0));
+        let longest = usize::from(rows_places::of_entry(&self.numbers.rows, e, 3));
+        if rows_contents::is_withdrawn(self.judging, row) {
+            return Err(Fault::Withdrawn {
+                element: row,
+                offset: tree::cell(self.tree, i, 0),
+            });
         }
-        from = left;
-        further = seen;
-        child = after;
+        if tree::cell(self.tree, i, 4) <= i + 1 {
+            if longest == 0 {
+                return rows_contents::text_in_group(self.s, self.tree, self.numbers, i, e);
+            }
+            return rows_contents::leaf(self.s, self.tree, self.judging, parent, i, row, longest);
+        }
+        if longest == 0 {
+            return self.children(i, e);
+        }
+        Err(Fault::NotAllowedThere {
+            element: row,
+            offset: tree::cell(self.tree, i + 1, 0),
+        })
     }
-    rows_contents::ended(rows, places, from, further, to, tree::cell(tree, i, 3))
+
+    // The children of element i as entry e, one after the other.
+    #[cycle(children_element)]
+    fn children(&self, i: usize, e: u16) -> Result<(), Fault>
+        requires { i < 4700 }
+        ensures { WalksAll self.now.s.now self.now.tree.now self.now.numbers.now.rows self.now.numbers.now.places self.now.judging i e result }
+    {
+        let row = usize::from(rows_places::of_entry(&self.numbers.rows, e, 0));
+        let next = tree::cell(self.tree, i, 4);
+        let mut left = Left {
+            from: rows_places::of_entry(&self.numbers.rows, e, 4),
+            seen: false,
+            to: rows_places::of_entry(&self.numbers.rows, e, 5),
+        };
+        let mut child = i + 1;
+        // Stays a `while`: where the next element begins, the tree says.
+        while child < next {
+            let after = tree::cell(self.tree, child, 4);
+            if after <= child {
+                return Ok(());
+            }
+            // A match and no `map_err`: a closure in a cycle of calls would need clauses of its own.
+            let placed = match rows_places::seek_further(self.tree, self.numbers, child, left) {
+                Ok(placed) => placed,
+                Err(unplaced) => {
+                    return Err(not_found(unplaced, row, tree::cell(self.tree, child, 0)));
+                }
+            };
+            self.element(row, child, placed.entry)?;
+            left = placed.left;
+            child = after;
+        }
+        rows_contents::ended(self.numbers, left, tree::cell(self.tree, i, 3))
+    }
 }
 
 // What the walk judges: where it is judging, 6 to 8, and 28 in a new message.
@@ -113,20 +109,29 @@ fn judging_of(profile: Profile, judging: bool) -> Judging
     ensures { JudgesFor profile judging result }
 {
     if judging {
-        return rows_contents::of_values(profile.archived);
+        rows_contents::of_values(profile.archived)
+    } else {
+        Judging::Rows
     }
-    Judging::Rows
 }
 
 // The walk over the rows of a profile, from the root, which is a group: 3 and 4, or, where it is judging, 6 to 8 and 28 as well. (`element` has one caller, so the compiler makes one function
-// of it and `children`, and a leaf is judged without a call.)
-pub fn rows_refusal(profile: Profile, s: &[u8], tree: &Tree, judging: bool) -> Finding
+// of it and `children`, and a leaf is judged without a call.) `judging` stays a flag: WalkPromise and both callers say it so, and a type parameter would only move the choice of `judging_of` to them.
+pub fn rows_refusal(profile: Profile, s: &[u8], tree: &Tree, judging: bool) -> Result<(), Fault>
     ensures { WalkPromise profile s.now tree.now judging result }
 {
-    let rows = rows_profile::rows(profile);
-    let places = rows_profile::places();
+    let numbers = Numbers {
+        rows: rows_profile::rows(profile),
+        places: rows_profile::places(),
+    };
     if tree::cell(tree, 0, 4) <= 1 {
-        return rows_contents::text_in_group(s, tree, &rows, &places, 0, 0);
+        return rows_contents::text_in_group(s, tree, &numbers, 0, 0);
     }
-    children(s, tree, &rows, &places, judging_of(profile, judging), 0, 0)
+    let walk = Walk {
+        s,
+        tree,
+        numbers: &numbers,
+        judging: judging_of(profile, judging),
+    };
+    walk.children(0, 0)
 }

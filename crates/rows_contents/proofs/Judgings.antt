@@ -1,10 +1,9 @@
 -- Laws about what a walk judges: which rows are withdrawn, and the judgement of an element that is in none of these, by what its row holds.
 use Prim.Native.Nat.{ℕ}
 use mathlib.Core.List.{List, [], ◌∷◌}
-use mathlib.Core.Bool.{Bool, true, false, ◌||◌}
+use mathlib.Core.Bool.{true, false}
 use mathlib.Core.Option.{Option, none}
 use mathlib.Core.Path.{◌≡◌, refl, sym, ap}
-use lib.Dec.{eqb}
 use Rattle.paper.specs.Form.{Head, Element, Elements, holding_text, holding_elements}
 use Rattle.paper.specs.Rows.{Place, Contents, text, elements, Row, head_of}
 use Rattle.paper.specs.Values.{among, lies_from}
@@ -13,21 +12,6 @@ use Rattle.paper.proofs.Laws.{some_not_none}
 use Rattle.rows_contents.specs.Judged.{withdrawn_by, at_text, at_leaf, judgement}
 use Rattle.rows_contents.specs.declared.Judging.{Judging}
 use Rattle.rows_contents.specs.declared.Judging.TheVariants.{Rows, ArchivedValues, NewValues}
-
--- one row is withdrawn
-pub one_withdrawn : (row : ℕ) → eqb row 32 ≡ among row (withdrawn_by NewValues)
-unfolding among withdrawn_by
-one_withdrawn row = go (eqb row 32)
-  where
-    go : (b : Bool) → b ≡ (b || false)
-    go true = refl
-    go false = refl
-
-pub none_withdrawn : (j : Judging) (row : ℕ) → (j ≡ NewValues → ⊥) → false ≡ among row (withdrawn_by j)
-unfolding among withdrawn_by
-none_withdrawn Rows row n = refl
-none_withdrawn ArchivedValues row n = refl
-none_withdrawn NewValues row n = absurd (n refl)
 
 -- what the three judge
 pub rows_judged : judgement Rows ≡ no_judgement
@@ -79,14 +63,6 @@ module _ (judging : Judging) (holder : Option Element) (parent : ℕ) (r : Row) 
         go Rows = refl
         go ArchivedValues = its_text
         go NewValues = its_text
-
--- a walk that judges texts
-pub judges_text : (j : Judging) (parent : ℕ) (r : Row) (h : Head) (w : List ℕ) {o : Option Refusal} → o ≡ text_refusal parent r h w → (j ≡ Rows → ⊥)
-    → o ≡ at_text j parent r h w
-unfolding at_text
-judges_text Rows parent r h w e n = absurd (n refl)
-judges_text ArchivedValues parent r h w e n = e
-judges_text NewValues parent r h w e n = e
 
 -- No two ways of judging judge alike: an empty leaf is told apart by 6, and a row that is withdrawn by 28.
 abbrev head : Head

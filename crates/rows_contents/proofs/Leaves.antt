@@ -1,62 +1,29 @@
 -- Laws about elements that hold text: in a group, and in a leaf.
-use Rattle.std.specs.Prelude.{if◌then◌else◌}
-use Prim.Native.Nat.{ℕ, suc, ◌+◌, ◌-◌, ◌<◌, ◌≤◌}
+use Rattle.std.specs.Prelude.{if◌then◌else◌, Result, Ok, Err, Some, None, MatchOption, position}
+use Rattle.std.specs.Prelude as code
+use Rattle.std.specs.List.{position_or_len}
+use Rattle.std.proofs.lemmas.List.Recursion.{is_position_or_len}
+use Prim.Native.Nat.{ℕ, suc, ◌+◌, ◌-◌, ◌<◌, ◌≤◌, min}
 use mathlib.Core.List.{List, [], ◌∷◌}
-use mathlib.Core.Bool.{Bool, true, false, not}
-use mathlib.Core.Option.{Option, none, some}
+use mathlib.Core.Bool.{Bool, true, false, not, cond}
+use mathlib.Core.Option.{Option, none}
 use mathlib.Core.Path.{◌≡◌, refl, sym, ap, ◌∙◌}
 use native.Mathlib.Omega.{arith}
-use lib.Dec.{eqb}
+use lib.Dec.{eqb, ltb}
 use lib.ListN.{length, drop, length-take, length-drop}
-use borrow.Author.Tests.{eqb-true, eqb-false, ne_eqb}
+use borrow.Author.Tests.{eqb-true, eqb-false, ne_eqb, ltb-true, ltb-false}
 use Rattle.paper.specs.Bytes.{bytes, white, value_character, Every, every}
 use Rattle.paper.specs.Form.{Head}
 use Rattle.paper.specs.Rows.{Place, Row, longest_of}
 use Rattle.paper.specs.Values.{right_for, lies_from, allowed}
-use Rattle.paper.specs.Refusals.{Left, from_here, missing, Refusal, refuse, first_not, ends, only_white, text_refusal}
+use Rattle.paper.specs.Refusals.{from_here, Refusal, refuse, first_not, ends, only_white, text_refusal}
 use Rattle.paper.proofs.Laws.{number_of, offset_of}
 use Rattle.leaf_texts.proofs.Laws.{none_first, one_first}
 use Rattle.tree.specs.Laid.{between, Entry}
-use Rattle.tree.proofs.Laws.{Cell, known_cell}
-use Rattle.rows_places.specs.Seek.{lacking}
-use Rattle.rows_places.specs.declared.Lacks.{Lacks}
-use Rattle.rows_places.specs.declared.Lacks.TheVariants as lacks
+use Rattle.tree.proofs.Laws.{Cell, start_cell, known_cell}
 use Rattle.leaf_values.specs.Judgements.{told, Judges}
-use Rattle.leaf_values.specs.declared.Judgement.{Judgement}
-use Rattle.leaf_values.specs.declared.Judgement.TheVariants.{Fine, EmptyOrTooLong, NotInTheSet, NotAllowed}
-
--- the end tag
-module _ (left : Left) (close : ℕ) {l : Lacks} (m : lacking l ≡ missing left) where
-  pub ends_early : {k : ℕ} → l ≡ lacks.Row k → refuse 4 k close ≡ ends left close
-  unfolding ends lacking
-  ends_early {k = k} q = let e : missing left ≡ some k = sym (rw q at m) in rw (e, ends)
-
-  pub ends_well : l ≡ lacks.Nothing → none ≡ ends left close
-  unfolding ends lacking
-  ends_well q = let e : missing left ≡ none = sym (rw q at m) in rw (e, ends)
-
--- what is known of the text of an element
-module _ {s tree : List ℕ} {i next : ℕ} {h : Head} (entry : Entry s tree i h next) {t : List ℕ} (text_is : t ≡ between h.start h.close s) {known : ℕ}
-    (known_is : Cell tree i 5 known) where
-  pub white_there : known ≡ 1 → Every white t
-  white_there k = rw text_is (entry.numbers.white_known (sym (known_cell entry known_is) ∙ k))
-
-  pub values_there : known ≡ 3 → Every value_character t
-  values_there k = rw text_is (entry.numbers.values_known (sym (known_cell entry known_is) ∙ k))
-
--- text in a group
-module _ (ps : List Place) (h : Head) (row : ℕ) {t w : List ℕ} {black : ℕ} (text_is : t ≡ w) (black_is : black ≡ first_not white t) where
-  pub black_refused : {row' start : ℕ} → row' ≡ row → start ≡ h.start → black < length t → refuse 3 row' (start + black) ≡ only_white row ps h w
-  unfolding only_white
-  black_refused p q l =
-      let f : first_not white w < length w = rw text_is at (rw black_is at l) in
-      rw (p, q, black_is, text_is, one_first white w f)
-
-  pub white_ends : {o : Option Refusal} → length t ≤ black → o ≡ ends (from_here ps) h.close → o ≡ only_white row ps h w
-  unfolding only_white
-  white_ends l e =
-      let f : length w ≤ first_not white w = rw text_is at (rw black_is at l) in
-      rw (none_first white w f) e
+use Rattle.leaf_values.specs.declared.Unfit.{Unfit}
+use Rattle.leaf_values.specs.declared.Unfit.TheVariants.{EmptyOrTooLong, NotInTheSet, NotAllowed}
 
 -- the first byte that is not of a kind lies within the text
 first_within : (p : ℕ → Bool) (w : List ℕ) → first_not p w ≤ length w
@@ -68,7 +35,55 @@ first_within p (b ∷ w) = go (p b) (first_within p w)
     go true h = omega arith
     go false h = omega arith
 
-part_within : (from to : ℕ) (s : List ℕ) → length (between from to s) ≤ length s
+-- the first byte that is not of a kind, as the library finds it
+first_not-len : (p : ℕ → Bool) (w : List ℕ) → first_not p w ≡ position_or_len (λ b. not (p b)) w
+unfolding first_not
+first_not-len p w = is_position_or_len (first_not p) (λ b. not (p b)) refl (λ b v. step b v (p b)) w
+  where
+    step : (b : ℕ) (v : List ℕ) (t : Bool) → (if t then suc (first_not p v) else 0) ≡ cond (not t) 0 (1 + first_not p v)
+    step b v true = omega arith
+    step b v false = refl
+
+pub first_not-position : (p : ℕ → Bool) (w : List ℕ) (r : code.Option ℕ) → r ≡ position (λ b. not (p b)) w
+    → MatchOption r (length w ≡ first_not p w) (λ i. (i < length w) × (i ≡ first_not p w))
+first_not-position p w r e = rw (e, ← first_not-len p w) (go (ltb (first_not p w) (length w)) refl)
+  where
+    go : (t : Bool) → ltb (first_not p w) (length w) ≡ t
+        → MatchOption (cond t (Some (first_not p w)) None) (length w ≡ first_not p w) (λ i. (i < length w) × (i ≡ first_not p w))
+    go true h = (ltb-true _ _ h, refl)
+    go false h = omega (arith, ltb-false _ _ h, first_within p w)
+
+-- an offset in the text of an element, so far behind its start
+pub offset_in : {s tree : List ℕ} {i next : ℕ} {h : Head} → Entry s tree i h next → {start behind : ℕ} → Cell tree i 2 start → behind ≤ length s
+    → length s < 9223372036854775808 → {offset : ℕ} → offset ≡ min (start + behind) 18446744073709551615 → offset ≡ h.start + behind
+offset_in entry start_is inside small e = omega (arith, e, start_cell entry start_is, entry.written.start_first, entry.written.close_inside, inside, small)
+
+-- what is known of the text of an element
+module _ {s tree : List ℕ} {i next : ℕ} {h : Head} (entry : Entry s tree i h next) {t : List ℕ} (text_is : t ≡ between h.start h.close s) {known : ℕ}
+    (known_is : Cell tree i 5 known) where
+  pub white_there : known ≡ 1 → Every white t
+  white_there k = rw text_is (entry.numbers.white_known (sym (known_cell entry known_is) ∙ k))
+
+  pub values_there : known ≡ 3 → Every value_character t
+  values_there k = rw text_is (entry.numbers.values_known (sym (known_cell entry known_is) ∙ k))
+
+-- text in a group
+module _ (ps : List Place) (h : Head) (row : ℕ) {t w : List ℕ} (text_is : t ≡ w) where
+  pub black_refused : {black row' offset : ℕ} → (black < length t) × (black ≡ first_not white t) → row' ≡ row → offset ≡ h.start + black
+      → refuse 3 row' offset ≡ only_white row ps h w
+  unfolding only_white
+  black_refused k p q =
+      let f : first_not white w < length w = rw text_is at (rw k.1 at k.0) in
+      rw (p, q, k.1, text_is, one_first white w f)
+
+  pub white_ends : {o : Option Refusal} → length t ≡ first_not white t → o ≡ ends (from_here ps) h.close → o ≡ only_white row ps h w
+  unfolding only_white
+  white_ends l e =
+      let g : length t ≤ first_not white t = omega arith in
+      let f : length w ≤ first_not white w = rw text_is at g in
+      rw (none_first white w f) e
+
+pub part_within : (from to : ℕ) (s : List ℕ) → length (between from to s) ≤ length s
 part_within from to s = omega (arith, length-take (to - from) (drop from s), length-drop from s)
 
 -- a rule that is not row 42's asks for no currency
@@ -95,7 +110,7 @@ seven_first parent r h w row k e =
     go false false true e = absurd (omega (arith, ap number_of e))
     go false false false e = absurd (omega (arith, ap number_of e))
 
-pub within_message : (parent row : ℕ) (r : Row) (h : Head) (s : List ℕ) (k : ℕ) → text_refusal parent r h (between h.start h.close s) ≡ told row h (NotInTheSet k)
+pub within_message : (parent row : ℕ) (r : Row) (h : Head) (s : List ℕ) (k : ℕ) → text_refusal parent r h (between h.start h.close s) ≡ told row h (Err (NotInTheSet k))
     → k ≤ length s
 unfolding told
 within_message parent row r h s k e =
@@ -103,18 +118,18 @@ within_message parent row r h s k e =
     (arith, seven_first parent r h (between h.start h.close s) row k e, first_within value_character (between h.start h.close s), part_within h.start h.close s)
 
 -- what is told of a leaf does not look at its currency
-told_any : (row : ℕ) (h : Head) (c : List ℕ) (j : Judgement)
+told_any : (row : ℕ) (h : Head) (c : List ℕ) (j : Result Unit Unfit)
     → told row (record { name = h.name; currency = c; at = h.at; start = h.start; close = h.close }) j ≡ told row h j
 unfolding told
-told_any row h c Fine = refl
-told_any row h c EmptyOrTooLong = refl
-told_any row h c (NotInTheSet k) = refl
-told_any row h c NotAllowed = refl
+told_any row h c (Ok tt) = refl
+told_any row h c (Err EmptyOrTooLong) = refl
+told_any row h c (Err (NotInTheSet k)) = refl
+told_any row h c (Err NotAllowed) = refl
 
 -- a leaf in the message, judged by its text and, where it is of row 42, its currency
 module _ {s tree : List ℕ} {i next parent row longest : ℕ} (r : Row) (h : Head) (entry : Entry s tree i h next) (row_is : r.row ≡ row)
     (longest_is : longest_of r.holds ≡ longest) (named : row ≡ 42 → h.name ≡ bytes "InstdAmt") {c : List ℕ} (currency_is : h.name ≡ bytes "InstdAmt" → c ≡ h.currency) where
-  judged_text : (j : Judgement) → Judges parent row longest c (between h.start h.close s) j → text_refusal parent r h (between h.start h.close s) ≡ told row h j
+  judged_text : (j : Result Unit Unfit) → Judges parent row longest c (between h.start h.close s) j → text_refusal parent r h (between h.start h.close s) ≡ told row h j
   judged_text j d = go (eqb row 42) refl
     where
       go : (b : Bool) → eqb row 42 ≡ b → text_refusal parent r h (between h.start h.close s) ≡ told row h j
@@ -123,6 +138,6 @@ module _ {s tree : List ℕ} {i next parent row longest : ℕ} (r : Row) (h : He
           leaf_any parent r h c (between h.start h.close s) (λ f. eqb-false row 42 q (sym row_is ∙ f)) ∙
           d.judged (r) (record { name = h.name; currency = c; at = h.at; start = h.start; close = h.close }) row_is longest_is refl ∙ told_any row h c j
 
-  pub judged_as : {known : ℕ} {t : List ℕ} {j k : Judgement} → Cell tree i 5 known → t ≡ between h.start h.close s
-      → ((known ≡ 3 → Every value_character t) → Judges parent row longest c t j) → j ≡ k → text_refusal parent r h (between h.start h.close s) ≡ told row h k
-  judged_as {k = k} known_is text_is judges told_as = judged_text k (rw (text_is, told_as) at (judges (values_there entry text_is known_is)))
+  pub judged_as : {known : ℕ} {t : List ℕ} {j : Result Unit Unfit} → Cell tree i 5 known → t ≡ between h.start h.close s
+      → ((known ≡ 3 → Every value_character t) → Judges parent row longest c t j) → text_refusal parent r h (between h.start h.close s) ≡ told row h j
+  judged_as {j = j} known_is text_is judges = judged_text j (rw text_is at (judges (values_there entry text_is known_is)))

@@ -1,5 +1,5 @@
 -- What a walk judges of each element, and what it finds at a leaf.
-use Rattle.std.specs.Prelude.{ℕ, List, [], ◌∷◌, ◌≡◌, if◌then◌else◌}
+use Rattle.std.specs.Prelude.{ℕ, List, [], ◌∷◌, ◌≡◌, if◌then◌else◌, Result}
 use Rattle.std.proofs.Math.Option.{Option, none}
 use Rattle.paper.specs.Bytes.{bytes}
 use Rattle.paper.specs.Form.{Head, Element}
@@ -8,7 +8,7 @@ use Rattle.paper.specs.Values.{among}
 use Rattle.paper.specs.Refusals.{Refusal, refuse, Judgement, text_refusal, leaf_refusal}
 use Rattle.paper.specs.Answers.{refusal_found}
 use Rattle.tree.specs.Laid.{between, Entry}
-use Rattle.paper.specs.declared.Finding.{Finding}
+use Rattle.paper.specs.declared.Fault.{Fault}
 use Rattle.rows_contents.specs.declared.Judging.{Judging}
 use Rattle.rows_contents.specs.declared.Judging.TheVariants.{Rows, ArchivedValues, NewValues}
 
@@ -35,7 +35,7 @@ judgement judging holder parent r t =
     if among r.row (withdrawn_by judging) then refuse 28 r.row (head_of t).at else at_leaf judging parent r t
 
 -- What is found of the text of element i as a leaf of this row. A leaf of row 42 is known to have that row's name.
-abbrev pub Judged : (judged : (parent : ℕ) → Row → Head → List ℕ → Option Refusal) (s tree : List ℕ) (parent i row longest : ℕ) → Finding → Type 0
+abbrev pub Judged : (judged : (parent : ℕ) → Row → Head → List ℕ → Option Refusal) (s tree : List ℕ) (parent i row longest : ℕ) → Result Unit Fault → Type 0
 Judged judged s tree parent i row longest f =
     (r : Row) (h : Head) (next : ℕ) → Entry s tree i h next → r.row ≡ row → longest_of r.holds ≡ longest → (row ≡ 42 → h.name ≡ bytes "InstdAmt")
     → refusal_found f ≡ judged parent r h (between h.start h.close s)

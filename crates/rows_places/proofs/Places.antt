@@ -1,5 +1,5 @@
 -- Laws about the places of an entry, step by step.
-use Rattle.std.specs.Prelude.{if◌then◌else◌}
+use Rattle.std.specs.Prelude.{if◌then◌else◌, Result, Ok, Err, Some, None}
 use Prim.Native.Nat.{ℕ, zero, suc, ◌+◌, ◌-◌, ◌<◌, ◌≤◌}
 use mathlib.Core.List.{List, [], ◌∷◌, ◌++◌}
 use mathlib.Core.Bool.{Bool, true, false}
@@ -8,37 +8,24 @@ use mathlib.Core.Path.{◌≡◌, refl, sym, ap, ◌∙◌}
 use native.Mathlib.Omega.{arith}
 use native.Mathlib.Nat.{add-zero}
 use lib.Dec.{eqb, ltb}
-use lib.ListN.{get_or}
-use borrow.Author.Tests.{ne_eqb, eqb-false, lt-ltb, le-ltb, ltb-true, ltb-false}
+use borrow.Author.Tests.{ne_eqb, eqb-false, le-ltb, ltb-true, ltb-false}
 use Rattle.paper.specs.Bytes.{same}
 use Rattle.paper.specs.Rows.{Place, one, opt, plus, either, Profile, name}
-use Rattle.paper.specs.Refusals.{Left, from_here, again, rows_at, required, left_of, first_row, missing_of, missing, Sought, never, early, found, past, named_in, seek_in, seek}
+use Rattle.paper.specs.Answers.{perhaps}
+use Rattle.paper.specs.Refusals.{Left, from_here, again, rows_at, required, left_of, first_row, missing_of, Sought, never, early, found, past, named_in, seek_in, seek}
 use Rattle.paper.proofs.Laws.{same_says, false_not_true}
 use Rattle.form_names.specs.Names.{name_number}
 use Rattle.form_names.proofs.Laws.{same_number}
 use Rattle.rows_places.specs.Numbers.{number_at, of_entry, of_place, first_of, second_of, of_kind, place_at, places_from, places_between, places_left, StandsFor}
-use Rattle.rows_places.specs.Seek.{lacking, behind, Resolved, Known, Takes, StandsAt, Seeks}
-use Rattle.rows_places.specs.declared.Lacks.{Lacks}
-use Rattle.rows_places.specs.declared.Lacks.TheVariants as lacks
-use Rattle.rows_places.specs.declared.Standing.{Standing}
-use Rattle.rows_places.specs.declared.Sought.{Sought as Sought'}
-use Rattle.rows_places.specs.declared.Standing.TheVariants as standing
-use Rattle.rows_places.specs.declared.Sought.TheVariants as sought
-use Rattle.rows_places.specs.declared.Taker.TheVariants as taker
+use Rattle.rows_places.specs.Seek.{behind, Resolved, Known, Takes, StandsAt, Seeks}
+use Rattle.rows_places.specs.declared.Placed.{Placed}
+use Rattle.rows_places.specs.declared.Unplaced.{Unplaced}
+use Rattle.rows_places.specs.declared.Unplaced.TheVariants.{Never, Early}
 
--- a number of a table, where there is one
-module _ (lines numbers : ℕ) (table : List (List ℕ)) (e k : ℕ) where
-  pub number_there : e < lines → k < numbers → number_at lines numbers table e k ≡ get_or (get_or table e []) k 0
-  unfolding number_at
-  number_there l h = rw (lt-ltb e lines l, lt-ltb k numbers h)
-
-  pub no_line : lines ≤ e → number_at lines numbers table e k ≡ 0
-  unfolding number_at
-  no_line l = rw (le-ltb e lines l)
-
-  pub no_number : e < lines → numbers ≤ k → number_at lines numbers table e k ≡ 0
-  unfolding number_at
-  no_number l h = rw (lt-ltb e lines l, le-ltb k numbers h)
+-- a table has no number in a line that it has not
+pub no_line : (lines numbers : ℕ) (table : List (List ℕ)) (e k : ℕ) → lines ≤ e → number_at lines numbers table e k ≡ 0
+unfolding number_at
+no_line lines numbers table e k l = rw (le-ltb e lines l)
 
 -- a place of each kind
 module _ (kind k l : ℕ) where
@@ -131,9 +118,9 @@ module _ (rows places : List (List ℕ)) where
     unfolding missing_of place_at
     missing_stops h n = rw (between_more p q h, kind_required _ _ _ n, kind_first (of_place places p 0) (first_of rows places p) (second_of rows places p))
 
-    pub missing-ends : q ≤ p → missing_of (places_between rows places p q) ≡ none
+    pub missing_ends : q ≤ p → missing_of (places_between rows places p q) ≡ none
     unfolding missing_of
-    missing-ends h = rw (between_none p q h)
+    missing_ends h = rw (between_none p q h)
 
 -- the name of an entry, compared by its number
 module _ {profile : Profile} {rows places : List (List ℕ)} {parent : ℕ} (w : List ℕ) (e : ℕ) (st : StandsFor profile rows places parent e) where
@@ -152,7 +139,7 @@ kind_begins kind k l = go (ltb kind 3) refl
 
 -- the entry that takes a place
 module _ {profile : Profile} {rows places : List (List ℕ)} {parent p : ℕ} (w : List ℕ) (r : Resolved profile rows places parent p) where
-  pub by_first : {e : ℕ} → e ≡ of_place places p 1 → eqb (name_number w) (of_entry rows e 2) ≡ true → Takes profile rows places parent w p (taker.Entry e)
+  pub by_first : {e : ℕ} → e ≡ of_place places p 1 → eqb (name_number w) (of_entry rows e 2) ≡ true → Takes profile rows places parent w p (Some e)
   unfolding Takes named_in place_at
   by_first {e} q s =
       let st : StandsFor profile rows places parent e = rw q r.first_stands in
@@ -160,7 +147,7 @@ module _ {profile : Profile} {rows places : List (List ℕ)} {parent p : ℕ} (w
       (rw (b.1, ← q, named_by w e st s), known_by w e st s)
 
   pub by_nobody : {e : ℕ} → e ≡ of_place places p 1 → eqb (name_number w) (of_entry rows e 2) ≡ false → of_place places p 0 < 3
-      → Takes profile rows places parent w p taker.Nobody
+      → Takes profile rows places parent w p None
   unfolding Takes named_in place_at
   by_nobody {e} q s h =
       let st : StandsFor profile rows places parent e = rw q r.first_stands in
@@ -175,11 +162,11 @@ module _ {profile : Profile} {rows places : List (List ℕ)} {parent p : ℕ} (w
         let st' : StandsFor profile rows places parent e = rw q' r.second_stands in
         rw (kind_choice (of_place places p 0) (first_of rows places p) (second_of rows places p) h, ← q, ← q', named_by w d st s, named_by w e st' s')
 
-    pub by_second : eqb (name_number w) (of_entry rows e 2) ≡ true → Takes profile rows places parent w p (taker.Entry e)
+    pub by_second : eqb (name_number w) (of_entry rows e 2) ≡ true → Takes profile rows places parent w p (Some e)
     unfolding Takes
     by_second s' = (of_two s', known_by w e (rw q' r.second_stands) s')
 
-    pub by_neither : eqb (name_number w) (of_entry rows e 2) ≡ false → Takes profile rows places parent w p taker.Nobody
+    pub by_neither : eqb (name_number w) (of_entry rows e 2) ≡ false → Takes profile rows places parent w p None
     unfolding Takes
     by_neither s' = of_two s'
 
@@ -239,7 +226,7 @@ module _ (profile : Profile) (rows places : List (List ℕ)) (parent : ℕ) (w :
   find_starts from to = rw (between_none rows places from from (omega arith))
 
   module _ (from to p : ℕ) where
-    pub find_goes : from ≤ p → p < to → SoFar from to p → Takes profile rows places parent w p taker.Nobody → SoFar from to (p + 1)
+    pub find_goes : from ≤ p → p < to → SoFar from to p → Takes profile rows places parent w p None → SoFar from to (p + 1)
     unfolding Takes
     find_goes l h e t =
         let one = ap (λ (ps : List Place). seek_in ps w) (between_more rows places p to h) ∙ seek_none w (place_at rows places p) (places_between rows places (p + 1) to) t in
@@ -247,106 +234,89 @@ module _ (profile : Profile) (rows places : List (List ℕ)) (parent : ℕ) (w :
         behind-past (places_between rows places from p) (place_at rows places p) (seek_in (places_between rows places (p + 1) to) w) ∙
         ap (λ (ps : List Place). behind (missing_of ps) (seek_in (places_between rows places (p + 1) to) w)) (sym (between_end rows places from p l))
 
-    pub find_stops : (d : ℕ) → from ≤ p → p < to → SoFar from to p → Takes profile rows places parent w p (taker.Entry d)
-        → StandsAt profile rows places parent w from to (standing.At p d)
+    pub find_stops : (d : ℕ) → from ≤ p → p < to → SoFar from to p → Takes profile rows places parent w p (Some d)
+        → StandsAt profile rows places parent w from to (Some (record { place = p; entry = d }))
     unfolding Takes StandsAt
     find_stops d l h e t =
         let one = ap (λ (ps : List Place). seek_in ps w) (between_more rows places p to h) ∙
         seek_some w (place_at rows places p) (places_between rows places (p + 1) to) (of_entry rows d 0) t.0 in
         (l, h, t.1, e ∙ ap (λ (q : Sought). behind (missing_of (places_between rows places from p)) q) one)
 
-    pub find_ends : to ≤ p → SoFar from to p → StandsAt profile rows places parent w from to standing.Nowhere
+    pub find_ends : to ≤ p → SoFar from to p → StandsAt profile rows places parent w from to None
     unfolding StandsAt
     find_ends h e = e ∙ ap (λ (ps : List Place). behind (missing_of (places_between rows places from p)) (seek_in ps w)) (between_none rows places p to h) ∙
         seek_nothing w (missing_of (places_between rows places from p))
 
 -- what comes of a child whose place is known
+abbrev pub placed_at : (entry from : ℕ) (seen : Bool) (to : ℕ) → Placed
+placed_at entry from seen to = record { entry = entry; left = record { from = from; seen = seen; to = to } }
+
 module _ (profile : Profile) (rows places : List (List ℕ)) (parent : ℕ) (w : List ℕ) (from to : ℕ) where
-  pub seek_never : {r : Standing} → StandsAt profile rows places parent w from to r → r ≡ standing.Nowhere
-      → Seeks profile rows places parent w (from_here (places_between rows places from to)) from to sought.Never
+  pub seek_never : StandsAt profile rows places parent w from to None
+      → Seeks profile rows places parent w (from_here (places_between rows places from to)) from to (Err Never)
   unfolding StandsAt Seeks seek
-  seek_never s e = rw e at s
+  seek_never s = s
 
-  module _ {r : Standing} {p d : ℕ} (s : StandsAt profile rows places parent w from to r) (e : r ≡ standing.At p d) where
-    at : StandsAt profile rows places parent w from to (standing.At p d)
-    at = rw e at s
+  module _ (p d : ℕ) (at : StandsAt profile rows places parent w from to (Some (record { place = p; entry = d }))) where
+    pub seek_early : (k : ℕ) → perhaps (Some k) ≡ missing_of (places_between rows places from p)
+        → Seeks profile rows places parent w (from_here (places_between rows places from to)) from to (Err (Early k))
+    unfolding StandsAt Seeks seek perhaps behind
+    seek_early k m =
+        at.3 ∙ ap (λ (o : Option ℕ). behind o (found (of_entry rows d 0) (left_of (place_at rows places p) (places_between rows places (p + 1) to)))) (sym m)
 
-    pub at_inside : p < to
-    unfolding StandsAt
-    at_inside = at.1
-
-    pub seek_early : {l : Lacks} {k : ℕ} → lacking l ≡ missing_of (places_between rows places from p) → l ≡ lacks.Row k
-        → Seeks profile rows places parent w (from_here (places_between rows places from to)) from to (sought.Early k)
-    unfolding StandsAt Seeks seek lacking behind
-    seek_early {k = k} m q =
-        let found_at : some k ≡ missing_of (places_between rows places from p) = rw q at m in
-        at.3 ∙ ap (λ (o : Option ℕ). behind o (found (of_entry rows d 0) (left_of (place_at rows places p) (places_between rows places (p + 1) to)))) (sym found_at)
-
-    module _ {l : Lacks} (m : lacking l ≡ missing_of (places_between rows places from p)) (q : l ≡ lacks.Nothing) where
+    module _ (m : perhaps None ≡ missing_of (places_between rows places from p)) where
       seek_found : seek_in (places_between rows places from to) w ≡ found (of_entry rows d 0) (left_of (place_at rows places p) (places_between rows places (p + 1) to))
-      unfolding StandsAt lacking behind
-      seek_found =
-          let found_at : none ≡ missing_of (places_between rows places from p) = rw q at m in
-          at.3 ∙ ap (λ (o : Option ℕ). behind o (found (of_entry rows d 0) (left_of (place_at rows places p) (places_between rows places (p + 1) to)))) (sym found_at)
+      unfolding StandsAt perhaps behind
+      seek_found = at.3 ∙ ap (λ (o : Option ℕ). behind o (found (of_entry rows d 0) (left_of (place_at rows places p) (places_between rows places (p + 1) to)))) (sym m)
 
-      pub seek_plus : of_place places p 0 ≡ 2 → Seeks profile rows places parent w (from_here (places_between rows places from to)) from to (sought.Found d p true)
+      pub seek_plus : of_place places p 0 ≡ 2 → Seeks profile rows places parent w (from_here (places_between rows places from to)) from to (Ok (placed_at d p true to))
       unfolding StandsAt Seeks seek places_left place_at
       seek_plus k = (
         at.0,
         λ _. at.1,
+        refl,
         at.2,
         seek_found ∙ ap (λ (l : Left). found (of_entry rows d 0) l)
             (kind_plus (of_place places p 0) (first_of rows places p) (second_of rows places p) (places_between rows places (p + 1) to) k),
       )
 
-      pub seek_once : (of_place places p 0 ≡ 2 → ⊥) → Seeks profile rows places parent w (from_here (places_between rows places from to)) from to (sought.Found d (p + 1) false)
+      pub seek_once : (of_place places p 0 ≡ 2 → ⊥) → Seeks profile rows places parent w (from_here (places_between rows places from to)) from to (Ok (placed_at d (p + 1) false to))
       unfolding StandsAt Seeks seek places_left place_at
       seek_once k = (
         omega (arith, at.0),
         λ f. false_not_true f,
+        refl,
         at.2,
         seek_found ∙ ap (λ (l : Left). found (of_entry rows d 0) l)
             (kind_once (of_place places p 0) (first_of rows places p) (second_of rows places p) (places_between rows places (p + 1) to) k),
       )
 
   -- one of a `plus` may have been seen
-  abbrev pub SoughtWhere : Bool → Sought' → Type 0
+  abbrev pub SoughtWhere : Bool → Result Placed Unplaced → Type 0
   SoughtWhere seen r = Seeks profile rows places parent w (places_left rows places from seen to) from to r
 
-  pub seek_fresh : (r : Sought') {seen : Bool} → seen ≡ false → Seeks profile rows places parent w (from_here (places_between rows places from to)) from to r → SoughtWhere seen r
+  pub seek_fresh : (r : Result Placed Unplaced) {seen : Bool} → seen ≡ false → Seeks profile rows places parent w (from_here (places_between rows places from to)) from to r
+      → SoughtWhere seen r
   unfolding places_left
   seek_fresh r f s = rw f s
 
-  pub seek_seen : (r : Sought') {seen : Bool} → seen ≡ true → SoughtWhere true r → SoughtWhere seen r
-  seek_seen r f s = rw f s
-
-  module _ (f : Resolved profile rows places parent from) (h : from < to) where
-    pub seek_again : (d : ℕ) → d ≡ of_place places from 1 → eqb (name_number w) (of_entry rows d 2) ≡ true → SoughtWhere true (sought.Found d from true)
+  module _ {seen : Bool} (m : seen ≡ true) (f : Resolved profile rows places parent from) (h : from < to) where
+    pub seek_again : (d : ℕ) → d ≡ of_place places from 1 → eqb (name_number w) (of_entry rows d 2) ≡ true → SoughtWhere seen (Ok (placed_at d from seen to))
     unfolding Seeks seek places_left
     seek_again d q s =
         let st : StandsFor profile rows places parent d = rw q f.first_stands in
-        (omega arith, λ _. h, known_by w d st s, rw (← q, named_by w d st s))
+        rw m (omega arith, λ _. h, refl, known_by w d st s, rw (← q, named_by w d st s))
 
     pub seek_on : (d : ℕ) → d ≡ of_place places from 1 → eqb (name_number w) (of_entry rows d 2) ≡ false
-        → (r : Sought') → Seeks profile rows places parent w (from_here (places_between rows places (from + 1) to)) (from + 1) to r → SoughtWhere true r
+        → (r : Result Placed Unplaced) → Seeks profile rows places parent w (from_here (places_between rows places (from + 1) to)) (from + 1) to r → SoughtWhere seen r
     unfolding Seeks seek places_left
-    seek_on d q s r g = go r g
+    seek_on d q s r g = rw m (go r g)
       where
         skip : (if same w (name (first_of rows places from)) then found (first_of rows places from) (again (first_of rows places from) (places_between rows places (from + 1) to)) else
             seek_in (places_between rows places (from + 1) to) w) ≡ seek_in (places_between rows places (from + 1) to) w
         skip = let st : StandsFor profile rows places parent d = rw q f.first_stands in rw (← q, named_by w d st s)
 
-        go : (r : Sought') → Seeks profile rows places parent w (from_here (places_between rows places (from + 1) to)) (from + 1) to r → SoughtWhere true r
-        go sought.Never g = skip ∙ g
-        go (sought.Early k) g = skip ∙ g
-        go (sought.Found e p m) g = (omega (arith, g.0), g.1, g.2, skip ∙ g.3)
-
--- what is missing where one of a `plus` may have been seen
-module _ (rows places : List (List ℕ)) (from to : ℕ) {o : Option ℕ} {seen : Bool} where
-  pub missing_fresh : seen ≡ false → o ≡ missing_of (places_between rows places from to) → o ≡ missing (places_left rows places from seen to)
-  unfolding places_left missing
-  missing_fresh f e = rw f e
-
-  pub missing_on : seen ≡ true → o ≡ missing_of (places_between rows places (from + 1) to) → o ≡ missing (places_left rows places from seen to)
-  unfolding places_left missing
-  missing_on f e = rw f e
+        go : (r : Result Placed Unplaced) → Seeks profile rows places parent w (from_here (places_between rows places (from + 1) to)) (from + 1) to r → SoughtWhere true r
+        go (Err Never) g = skip ∙ g
+        go (Err (Early k)) g = skip ∙ g
+        go (Ok placed) g = (omega (arith, g.0), g.1, g.2, g.3, skip ∙ g.4)

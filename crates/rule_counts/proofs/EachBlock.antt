@@ -14,15 +14,14 @@ use Rattle.paper.specs.Refusals.{Refusal, unless, ◌or_else◌, block_counts, c
 use Rattle.paper.specs.Answers.{refusal_found}
 use Rattle.paper.specs.Accepted.{All, all_none, all_more}
 use Rattle.paper.specs.declared.Fault.{Fault}
-use Rattle.paper.specs.declared.Finding.{Finding}
-use Rattle.paper.specs.declared.Finding.TheVariants as finding
-use Rattle.paper.proofs.Findings.{found_first}
+use Rattle.std.specs.Prelude.{Result, Ok, Err}
+use Rattle.std.specs.Result.{IsErrAnd}
 use Rattle.paper.proofs.Laws.{all_joined}
 use Rattle.tree.specs.Laid.{LaidAt}
 use Rattle.rule_limits.specs.declared.PaymentAt.{PaymentAt}
 use Rattle.rule_limits.specs.Ordered.{PaymentsAt, no_payments, more_payments, payment_in, Ordered}
 use Rattle.rule_limits.proofs.First.{first_block, no_block_left, first_payment, stands_at, payment_there, one_fewer}
-use Rattle.rule_limits.proofs.Refusing.{later}
+use Rattle.rule_limits.proofs.Refusing.{leaves, later}
 use Rattle.tree_leaves.specs.Readable.{ReadBlock, ReadPayment, Readable}
 use Rattle.rule_totals.proofs.Amounts.{first_has, others_have, amounts}
 use Rattle.rule_counts.specs.Counted.{InBlock, BehindBlock, BlocksFrom, block_refusal, header_refusal}
@@ -63,7 +62,7 @@ module _ {s tree order : List ℕ} {k from n : ℕ} {ps rest : List Payment} whe
             let y : from + length ps ≡ i + 1 + length left = omega arith in
             record { left = left; left_at = more; left_many = x; left_mine = mine; end_is = y }
 
-  pub payments_over : {i : ℕ} → Passing s tree order k ps rest from i n → n ≤ i → i ≡ from + length ps
+  pub payments_over : {i : ℕ} → Passing s tree order k ps rest from i n → n ≤ i → n ≡ from + length ps
   payments_over {i} w h = omega (arith, w.left_many, w.end_is, length-append w.left rest)
 
 -- all of two lists
@@ -123,10 +122,6 @@ unfolding ◌or_else◌
 or_joined none b c = refl
 or_joined (some r) b c = refl
 
-module _ (r a b : Finding) {x y : Option Refusal} (first : refusal_found r ≡ refusal_found a or_else refusal_found b) (p : refusal_found a ≡ x) (q : refusal_found b ≡ y) where
-  pub both_found : refusal_found r ≡ x or_else y
-  both_found = first ∙ ap (λ (o : Option Refusal). o or_else refusal_found b) p ∙ ap (λ (o : Option Refusal). x or_else o) q
-
 block_counts_more : (b : Element) (bs : List Element) → block_counts (b ∷ bs) ≡ block_refusal b or_else block_counts bs
 unfolding block_counts block_refusal
 block_counts_more b bs = or_joined _ _ _
@@ -148,7 +143,7 @@ EndsAt order k from n to =
     (s tree : List ℕ) (ps rest : List Payment) → PaymentsAt s tree order from (ps ++ rest) → n ≡ from + length (ps ++ rest) → n ≤ 64
     → All (InBlock k) ps → All (BehindBlock k) rest → to ≡ from + length ps
 
-abbrev pub BlockSays : (s tree order : List ℕ) (block from to : ℕ) (f : Finding) → Type 0
+abbrev pub BlockSays : (s tree order : List ℕ) (block from to : ℕ) (f : Result Unit Fault) → Type 0
 BlockSays s tree order block from to f =
     (b : Element) (ps : List Payment) → LaidAt s tree block b → PaymentsAt s tree order from ps → to ≡ from + length ps → to ≤ 64
     → map (λ p. p.own) ps ≡ all_of 37 b → ReadBlock b → All ReadPayment ps → refusal_found f ≡ block_refusal b
@@ -160,7 +155,7 @@ pub record BlocksLeft (s tree order : List ℕ) (k n many_blocks many_payments :
   refusal_is : block_counts bs ≡ block_counts rest
 
 -- One block, with its own refusal, and the blocks behind it.
-record OneBlock (s tree order : List ℕ) (k n many_blocks many_payments : ℕ) (bs : List Element) (to : ℕ) (f : Finding) : Type 0 where
+record OneBlock (s tree order : List ℕ) (k n many_blocks many_payments : ℕ) (bs : List Element) (to : ℕ) (f : Result Unit Fault) : Type 0 where
   one : Element
   others : List Element
   found_is : refusal_found f ≡ block_refusal one
@@ -172,11 +167,11 @@ module _ {s tree order : List ℕ} {bs : List Element} {many_blocks many_payment
   blocks_left w = record { rest = bs; rest_from = w; refusal_is = refl }
 
   module _ {k n : ℕ} (w : BlocksLeft s tree order k n many_blocks many_payments bs) where
-    pub blocks_done : many_blocks ≤ k → refusal_found finding.Nothing ≡ block_counts bs
+    pub blocks_done : many_blocks ≤ k → refusal_found (Ok tt) ≡ block_counts bs
     unfolding refusal_found block_counts
     blocks_done h = sym (w.refusal_is ∙ ap (block_counts) (no_block_left w.rest_from.blocks_at w.rest_from.blocks_many h))
 
-    module _ {to block : ℕ} (f : Finding) (h : k < many_blocks) (here : k < 16 → block ≡ get_or order k 0) (ends : EndsAt order k n many_payments to)
+    module _ {to block : ℕ} (f : Result Unit Fault) (h : k < many_blocks) (here : k < 16 → block ≡ get_or order k 0) (ends : EndsAt order k n many_payments to)
         (says : BlockSays s tree order block n to f) where
       one_block : OneBlock s tree order k n many_blocks many_payments bs to f
       one_block =
@@ -212,12 +207,12 @@ module _ {s tree order : List ℕ} {bs : List Element} {many_blocks many_payment
             split = w.refusal_is ∙ ap (block_counts) x.first_is ∙ block_counts_more b x.others;
           }
 
-      pub block_refused : {fault : Fault} → f ≡ finding.Refused fault → refusal_found f ≡ block_counts bs
-      block_refused e =
+      pub block_refused : (r : Result Unit Fault) {fault : Fault} → f ≡ Err fault → IsErrAnd r (λ d. d ≡ fault) → refusal_found r ≡ block_counts bs
+      block_refused r e is =
           let o = one_block in
-          found_first (block_refusal o.one) (block_counts o.others) f o.found_is e ∙ sym o.split
+          leaves r (block_counts o.others) o.found_is e is ∙ sym o.split
 
-      pub block_passed : f ≡ finding.Nothing → BlocksLeft s tree order (k + 1) to many_blocks many_payments bs
+      pub block_passed : f ≡ Ok tt → BlocksLeft s tree order (k + 1) to many_blocks many_payments bs
       block_passed e =
           let o = one_block in
           record { rest = o.others; rest_from = o.others_from; refusal_is = o.split ∙ later (block_counts o.others) o.found_is e }

@@ -1,11 +1,14 @@
 -- Counts and sums, as far as the code needs words of its own.
-use Rattle.std.specs.Prelude.{ℕ, ◌+◌, ◌≤◌, ◌<◌, List, ◌≡◌, length, eqb}
-use Rattle.std.proofs.Math.Option.{Option}
+use Rattle.std.specs.Prelude.{ℕ, ◌+◌, ◌≤◌, ◌<◌, List, ◌≡◌, length, eqb, Bool}
+use Rattle.std.proofs.Math.Option.{Option, some}
 use Rattle.paper.specs.Form.{Element}
 use Rattle.paper.specs.Values.{number, cents}
-use Rattle.paper.specs.Payments.{Payment, child, all_of, of_header, payments_from, sum_of}
+use Rattle.paper.specs.Payments.{Payment, text_of, child, all_of, of_header, payments_from, sum_of}
 use Rattle.paper.specs.Refusals.{Refusal, ◌or_else◌, unless}
 use Rattle.paper.specs.Accepted.{All}
+use Rattle.paper.specs.Answers.{refusal_of, numbered}
+use Rattle.paper.specs.declared.Fault.{Fault}
+use Rattle.tree.specs.Laid.{LaidAt}
 use Rattle.rule_limits.specs.Ordered.{BlocksAt, PaymentsAt}
 use Rattle.tree_leaves.specs.Readable.{ReadBlock, ReadPayment}
 
@@ -36,3 +39,10 @@ unfoldable pub block_refusal : Element → Option Refusal
 block_refusal b =
     unless (λ w. eqb (number w) (length (all_of 37 b))) 12 14 (child 14 b) or_else
     unless (λ w. eqb (cents w) (sum_of (all_of 37 b))) 13 15 (child 15 b)
+
+-- A test of an element, which it answers so, is this test of the element's text; and a fault that is made so of an offset is this refusal there.
+abbrev pub Asks : (s tree : List ℕ) (o : Option Element) (test : List ℕ → Bool) (answers : ℕ → Bool → Type 0) → Type 0
+Asks s tree o test answers = (i : ℕ) (b : Bool) (t : Element) → answers i b → LaidAt s tree i t → o ≡ some t → b ≡ test (text_of t)
+
+abbrev pub Makes : (number row : ℕ) (made : ℕ → Fault → Type 0) → Type 0
+Makes number row made = (offset : ℕ) (fault : Fault) → made offset fault → refusal_of fault ≡ numbered number row offset

@@ -14,18 +14,16 @@ use Rattle.paper.specs.Payments.{text_of, child, blocks}
 use Rattle.paper.specs.Refusals.{Refusal, refuse, unless, ◌or_else◌, among_texts, repeated, ids_refusal}
 use Rattle.paper.specs.Answers.{refusal_found}
 use Rattle.paper.specs.declared.Fault.{Fault}
-use Rattle.paper.specs.declared.Finding.{Finding}
-use Rattle.paper.specs.declared.Finding.TheVariants as finding
-use Rattle.paper.proofs.Findings.{found_first}
 use Rattle.tree.specs.Laid.{LaidAt}
 use Rattle.rule_limits.specs.Ordered.{BlocksAt, no_blocks, more_blocks, Ordered}
-use Rattle.tree_routes.specs.declared.Found.{Found}
-use Rattle.tree_routes.specs.declared.Found.TheVariants.{At, Nothing}
+use Rattle.std.specs.Prelude.{Result, Ok, Err, Some, None}
+use Rattle.std.specs.Prelude as code
+use Rattle.std.specs.Result.{IsErrAnd}
 use Rattle.tree_routes.specs.Finds.{Finds}
 use Rattle.tree_routes.proofs.WhatIsFound.{found_none, found_some}
 use Rattle.rule_ids.specs.Ids.{with_id, with_ids, id_refusal}
 use Rattle.rule_limits.proofs.First.{FirstBlock, first_block, no_block_left, stands_at, one_fewer}
-use Rattle.rule_limits.proofs.Refusing.{later}
+use Rattle.rule_limits.proofs.Refusing.{leaves, later}
 
 -- one id among those of a block, and among those of earlier blocks and one more
 or_nothing : (a b : Bool) → (a || b) ≡ ((a || false) || b)
@@ -50,11 +48,11 @@ module _ (w : List ℕ) where
       let o = child 11 b in
       still_among (with_id earlier o) bs (among_more earlier o ∙ or_true (among_texts w (with_id [] o)) (among_texts w earlier) h)
 
-pub id_absent : (w : List ℕ) {s tree : List ℕ} {o : Option Element} {f : Found} → Finds s tree o f → f ≡ Nothing → false ≡ among_texts w (with_id [] o)
+pub id_absent : (w : List ℕ) {s tree : List ℕ} {o : Option Element} {f : code.Option ℕ} → Finds s tree o f → f ≡ None → false ≡ among_texts w (with_id [] o)
 unfolding among_texts with_id
 id_absent w found e = sym (rw (found_none found e))
 
-pub id_there : (w : List ℕ) {s tree u v : List ℕ} {o : Option Element} {f : Found} {i : ℕ} {r : Bool} → Finds s tree o f → f ≡ At i
+pub id_there : (w : List ℕ) {s tree u v : List ℕ} {o : Option Element} {f : code.Option ℕ} {i : ℕ} {r : Bool} → Finds s tree o f → f ≡ Some i
     → u ≡ w → ((t : Element) → LaidAt s tree i t → v ≡ text_of t) → r ≡ same u v → r ≡ among_texts w (with_id [] o)
 unfolding among_texts with_id
 id_there w {v = v} {o} found e g h d =
@@ -160,7 +158,7 @@ pub record BeforeId (s tree order : List ℕ) (root : Element) (k n : ℕ) : Typ
   refusal_is : ids_refusal root ≡ repeated (with_ids [] before) rest
 
 -- what `id_at` answers at block k
-abbrev pub IdAt : (s tree order : List ℕ) (k : ℕ) (f : Finding) → Type 0
+abbrev pub IdAt : (s tree order : List ℕ) (k : ℕ) (f : Result Unit Fault) → Type 0
 IdAt s tree order k f =
     (bs : List Element) (b : Element) → BlocksAt s tree order 0 bs → k ≡ length bs → k < 16 → LaidAt s tree (get_or order k 0) b
     → refusal_found f ≡ id_refusal (with_ids [] bs) b
@@ -172,11 +170,11 @@ module _ {s tree order : List ℕ} {root : Element} where
       record { before = []; before_at = no_blocks; before_many = refl; rest = blocks root; rest_at = o.blocks_at; rest_many = omega arith; refusal_is = refl }
 
   module _ {k n : ℕ} (w : BeforeId s tree order root k n) where
-    pub no_id_left : n ≤ k → refusal_found finding.Nothing ≡ ids_refusal root
+    pub no_id_left : n ≤ k → refusal_found (Ok tt) ≡ ids_refusal root
     unfolding refusal_found repeated
     no_id_left h = sym (w.refusal_is ∙ ap (repeated (with_ids [] w.before)) (no_block_left w.rest_at w.rest_many h))
 
-    module _ (f : Finding) (h : k < n) (few : n ≤ 16) (at : IdAt s tree order k f) where
+    module _ (f : Result Unit Fault) (h : k < n) (few : n ≤ 16) (at : IdAt s tree order k f) where
       here : (x : FirstBlock s tree order k w.rest) → refusal_found f ≡ id_refusal (with_ids [] w.before) x.one
       here x = at w.before x.one w.before_at w.before_many (omega arith) x.one_laid
 
@@ -185,13 +183,12 @@ module _ {s tree order : List ℕ} {root : Element} where
           repeated (with_id (with_ids [] w.before) (child 11 x.one)) x.others
       split x = w.refusal_is ∙ ap (repeated (with_ids [] w.before)) x.first_is ∙ repeated_is (with_ids [] w.before) x.one x.others
 
-      pub id-refused : {fault : Fault} → f ≡ finding.Refused fault → refusal_found f ≡ ids_refusal root
-      id-refused e =
+      pub id-refused : (r : Result Unit Fault) {fault : Fault} → f ≡ Err fault → IsErrAnd r (λ d. d ≡ fault) → refusal_found r ≡ ids_refusal root
+      id-refused r e is =
           let x = first_block w.rest_at w.rest_many h in
-          found_first (id_refusal (with_ids [] w.before) x.one)
-          (repeated (with_id (with_ids [] w.before) (child 11 x.one)) x.others) f (here x) e ∙ sym (split x)
+          leaves r (repeated (with_id (with_ids [] w.before) (child 11 x.one)) x.others) (here x) e is ∙ sym (split x)
 
-      pub id_passed : f ≡ finding.Nothing → BeforeId s tree order root (k + 1) n
+      pub id_passed : f ≡ Ok tt → BeforeId s tree order root (k + 1) n
       id_passed e =
           let x = first_block w.rest_at w.rest_many h in
           let y : k + 1 ≡ length (w.before ++ x.one ∷ []) = omega (arith, w.before_many, length-append w.before (x.one ∷ [])) in

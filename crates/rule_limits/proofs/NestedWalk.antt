@@ -12,14 +12,16 @@ use Rattle.paper.specs.Form.{Element, Elements}
 use Rattle.paper.specs.Payments.{Payment, listed, all_named, all_of, child, blocks, payments_from, payments}
 use Rattle.paper.specs.Refusals.{Refusal, refuse, ◌or_else◌, sixty_fifth, too_many, limits_refusal}
 use Rattle.form_names.specs.Names.{is_sought}
-use Rattle.tree.specs.Laid.{cell_of, Laid, LaidAll, LaidAt}
+use Rattle.tree.specs.Laid.{Laid, LaidAll, LaidAt}
 use Rattle.tree.proofs.Laws.{Cell, few_enough, at_cell, entry_of}
 use Rattle.tree_routes.specs.Finds.{Next}
 use Rattle.tree_routes.proofs.Laws.{ends_at, next_one, next_none}
-use Rattle.rule_limits.specs.Ordered.{BlocksAt, no_blocks, more_blocks, IsPayment, PaymentsAt, no_payments, more_payments, Ordered, Limited, is_within, is_excess, Said, says_within, says_excess, Few}
+use Rattle.rule_limits.specs.Ordered.{BlocksAt, no_blocks, more_blocks, IsPayment, PaymentsAt, no_payments, more_payments, Ordered, Limited, is_within, is_excess}
 use Rattle.rule_limits.specs.declared.PaymentAt.{PaymentAt}
-use Rattle.rule_limits.specs.declared.Limits.{Limits}
-use Rattle.rule_limits.specs.declared.Limits.TheVariants.{Within, Excess}
+use Rattle.std.specs.Prelude.{Ok, Err, Some, None}
+use Rattle.std.specs.Prelude as code
+use Rattle.paper.specs.declared.Fault.{Fault}
+use Rattle.paper.specs.declared.Fault.TheVariants.{TooMany}
 use Rattle.rule_limits.proofs.Buffer.{Agrees, agrees, wrote_block, block_stands, three, three_length, wrote_payment, payment_stands}
 use Rattle.rule_limits.proofs.Steps.{paid, blocks_are, no_blocks_are, payments_from_are, no_payments_from, excess_block, next_block, no_block, excess_payment, next_payment, no_payment}
 
@@ -86,7 +88,8 @@ module _ {s tree order : List ℕ} {root : Element} where
       }
 
   -- the walk is at its end
-  pub finishes : {b n i stop : ℕ} → BeforeBlock s tree order root b n i stop → stop ≤ i → 208 ≤ length order → Limited s tree order root (Within b n)
+  pub finishes : {b n i stop : ℕ} → BeforeBlock s tree order root b n i stop → stop ≤ i → 208 ≤ length order
+      → Limited s tree order root (Ok (record { blocks = b; payments = n }))
   finishes {b} {n} w h room =
       let e = next_none w.next_is h in
       let x : payments_from b w.rest ≡ [] = ap (payments_from b) e ∙ no_payments_from b in
@@ -97,7 +100,7 @@ module _ {s tree order : List ℕ} {root : Element} where
       (w.order_is room order (agrees order b n) (subst (BlocksAt s tree order b) (sym e) no_blocks) (subst (PaymentsAt s tree order n) (sym x) no_payments))
 
   -- no element holds blocks
-  pub holds_none : child 2 root ≡ none → Limited s tree order root (Within 0 0)
+  pub holds_none : child 2 root ≡ none → Limited s tree order root (Ok (record { blocks = 0; payments = 0 }))
   unfolding limits_refusal payments
   holds_none e =
       let x : blocks root ≡ [] = no_blocks_are root e in
@@ -106,14 +109,14 @@ module _ {s tree order : List ℕ} {root : Element} where
       (record { blocks_at = subst (BlocksAt s tree order 0) (sym x) no_blocks; payments_at = subst (PaymentsAt s tree order 0) (sym y) no_payments })
 
   -- a block in excess; a payment in excess
-  pub block_exceeds : {b n i stop r : ℕ} → BeforeBlock s tree order root b n i stop → i < stop → b ≡ 16 → (i < 4700 → r ≡ cell_of tree i 0)
+  pub block_exceeds : {b n i stop r : ℕ} → BeforeBlock s tree order root b n i stop → i < stop → b ≡ 16 → Cell tree i 0 r
       → limits_refusal root ≡ refuse 5 10 r
   block_exceeds {b} {n} w h e c =
       let f = next_one w.next_is h in
       w.refusal_is ∙ ap (too_many b n) f.first_is ∙ ap (λ (m : ℕ). too_many m n (f.one ∷ blocks_in f.later)) e ∙
-      excess_block n f.one (blocks_in f.later) ∙ ap (refuse 5 10) (sym (at_cell (entry_of f.one_laid) (λ g _. c g)))
+      excess_block n f.one (blocks_in f.later) ∙ ap (refuse 5 10) (sym (at_cell (entry_of f.one_laid) c))
 
-  pub payment_exceeds : {b n i j after stop r : ℕ} → BeforePayment s tree order root b n i j after stop → j < after → n ≡ 64 → (j < 4700 → r ≡ cell_of tree j 0)
+  pub payment_exceeds : {b n i j after stop r : ℕ} → BeforePayment s tree order root b n i j after stop → j < after → n ≡ 64 → Cell tree j 0 r
       → limits_refusal root ≡ refuse 5 37 r
   payment_exceeds {b} {n} w h e c =
       let f = next_one w.next_is h in
@@ -121,7 +124,7 @@ module _ {s tree order : List ℕ} {root : Element} where
       let rest = too_many (suc b) (n + length w.rest) (blocks_in w.later) in
       w.refusal_is ∙ ap (λ (ts : List Element). sixty_fifth n ts or_else rest) f.first_is ∙
       ap (λ (m : ℕ). sixty_fifth m (f.one ∷ others) or_else rest) e ∙ excess_payment f.one others rest ∙
-      ap (refuse 5 37) (sym (at_cell (entry_of f.one_laid) (λ g _. c g)))
+      ap (refuse 5 37) (sym (at_cell (entry_of f.one_laid) c))
 
   -- into a block
   pub enters : {now : List ℕ} {b n i j after stop : ℕ} → BeforeBlock s tree order root b n i stop → i < stop → b < 16
@@ -220,53 +223,40 @@ module _ {s tree order : List ℕ} {root : Element} where
 abbrev pub Along : (tree : List ℕ) (initiation : ℕ) → ((s : List ℕ) (root : Element) → Type 0) → Type 0
 Along tree initiation P = (s : List ℕ) (root holder : Element) → child 2 root ≡ some holder → LaidAt s tree initiation holder → P s root
 
--- What is known where the walk was left, at its end or by the label: the row of the element in excess, 0 for none, and where that element stands.
-pub record Exit (tree before order : List ℕ) (initiation b n element excess : ℕ) : Type 0 where
+-- What is known where the walk was left, at its end or by the label: whether an element is in excess, and the fault of that.
+pub record Exit (tree before order : List ℕ) (initiation b n : ℕ) (excess : code.Option Fault) : Type 0 where
   pub few_blocks : b ≤ 16
   pub few_payments : n ≤ 64
-  pub when_within : element ≡ 0 → Along tree initiation (λ s root. 208 ≤ length before → Limited s tree order root (Within b n))
-  pub when_excess : (element ≡ 0 → ⊥) → {r : ℕ} → (excess < 4700 → r ≡ cell_of tree excess 0)
-      → Along tree initiation (λ s root. Limited s tree order root (Excess element r))
+  pub when_within : excess ≡ None → Along tree initiation (λ s root. 208 ≤ length before → Limited s tree order root (Ok (record { blocks = b; payments = n })))
+  pub when_excess : (fault : Fault) → excess ≡ Some fault → Along tree initiation (λ s root. Limited s tree order root (Err fault))
 
-module _ {tree before order new : List ℕ} {initiation b n m i stop element excess : ℕ} (few : b ≤ 16) (fewer : n ≤ 64) where
+-- by the label, with the fault of a row's element
+by_label : {tree before new : List ℕ} {initiation b m row r : ℕ} {excess : code.Option Fault} → b ≤ 16 → m ≤ 64
+    → Along tree initiation (λ s root. limits_refusal root ≡ refuse 5 row r) → excess ≡ Some (TooMany row r) → Exit tree before new initiation b m excess
+by_label {tree = tree} {new = new} few f w e =
+    record {
+      few_blocks = few;
+      few_payments = f;
+      when_within = λ z s root holder c l room. let x : ◌≡◌ {A = ℕ} 0 1 = cc in absurd (omega (arith, x));
+      when_excess = λ fault z s root holder c l.
+          let t : TooMany _ _ ≡ fault = cc in subst (λ (g : Fault). Limited s tree new root (Err g)) t (is_excess (w s root holder c l));
+    }
+
+module _ {tree before order new : List ℕ} {initiation b n m i stop : ℕ} {excess : code.Option Fault} (few : b ≤ 16) (fewer : n ≤ 64) where
   pub left_at_end : stop ≤ i → length order ≡ length before → Along tree initiation (λ s root. BeforeBlock s tree order root b n i stop)
-      → new ≡ order → m ≡ n → element ≡ 0 → Exit tree before new initiation b m element excess
+      → new ≡ order → m ≡ n → excess ≡ None → Exit tree before new initiation b m excess
   left_at_end h long w p q e =
       record {
         few_blocks = few;
         few_payments = omega arith;
         when_within = λ z s root holder c l room. rw (p, q) (finishes (w s root holder c l) h (omega arith));
-        when_excess = λ z g s root holder c l. absurd (z e);
+        when_excess = λ fault z s root holder c l. let x : ◌≡◌ {A = ℕ} 0 1 = cc in absurd (omega (arith, x));
       }
 
-  pub left_at_block : i < stop → b ≡ 16 → Along tree initiation (λ s root. BeforeBlock s tree order root b n i stop)
-      → new ≡ order → m ≡ n → element ≡ 10 → excess ≡ i → Exit tree before new initiation b m element excess
-  left_at_block h x w p q e f =
-      record {
-        few_blocks = few;
-        few_payments = omega arith;
-        when_within = λ z s root holder c l room. absurd (omega arith);
-        when_excess = λ z {r} g s root holder c l.
-            rw e (is_excess (block_exceeds (w s root holder c l) h x (subst (λ (k : ℕ). k < 4700 → r ≡ cell_of tree k 0) f g)));
-      }
+  pub left_at_block : {r : ℕ} → i < stop → b ≡ 16 → Along tree initiation (λ s root. BeforeBlock s tree order root b n i stop) → m ≡ n → Cell tree i 0 r
+      → excess ≡ Some (TooMany 10 r) → Exit tree before new initiation b m excess
+  left_at_block h x w q c e = by_label few (omega arith) (λ s root holder d l. block_exceeds (w s root holder d l) h x c) e
 
-  pub left_at_payment : {j after : ℕ} → j < after → n ≡ 64 → Along tree initiation (λ s root. BeforePayment s tree order root b n i j after stop)
-      → new ≡ order → m ≡ n → element ≡ 37 → excess ≡ j → Exit tree before new initiation b m element excess
-  left_at_payment h x w p q e f =
-      record {
-        few_blocks = few;
-        few_payments = omega arith;
-        when_within = λ z s root holder c l room. absurd (omega arith);
-        when_excess = λ z {r} g s root holder c l.
-            rw e (is_excess (payment_exceeds (w s root holder c l) h x (subst (λ (k : ℕ). k < 4700 → r ≡ cell_of tree k 0) f g)));
-      }
-
--- what is said then
-module _ {tree before order : List ℕ} {initiation b n element excess : ℕ} (x : Exit tree before order initiation b n element excess) where
-  pub few_said : {r : Limits} → Said tree b n element excess r → Few r
-  few_said (says_within e) = (x.few_blocks, x.few_payments)
-  few_said (says_excess e c) = tt
-
-  pub limits_said : {r : Limits} → Said tree b n element excess r → Along tree initiation (λ s root. 208 ≤ length before → Limited s tree order root r)
-  limits_said (says_within e) = x.when_within e
-  limits_said (says_excess e c) = λ s root holder h l room. x.when_excess e c s root holder h l
+  pub left_at_payment : {j after r : ℕ} → j < after → n ≡ 64 → Along tree initiation (λ s root. BeforePayment s tree order root b n i j after stop) → m ≡ n
+      → Cell tree j 0 r → excess ≡ Some (TooMany 37 r) → Exit tree before new initiation b m excess
+  left_at_payment h x w q c e = by_label few (omega arith) (λ s root holder d l. payment_exceeds (w s root holder d l) h x c) e

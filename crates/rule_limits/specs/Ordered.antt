@@ -1,13 +1,14 @@
 -- Where the blocks and payments stand, as numbers in a lent buffer: number k, below 16, is the element of block k; for payment k the three numbers from
 -- 16 + 3k on are its own element, its block's element and its block's number.
-use Rattle.std.specs.Prelude.{ℕ, ◌+◌, ◌*◌, ◌≤◌, ◌<◌, List, [], ◌∷◌, ◌≡◌, length, get_or}
+use Rattle.std.specs.Prelude.{ℕ, ◌+◌, ◌*◌, ◌≤◌, List, [], ◌∷◌, ◌≡◌, length, get_or, Result, Ok, Err, IfOk}
 use Rattle.std.proofs.Math.Option.{none}
 use Rattle.paper.specs.Form.{Element}
 use Rattle.paper.specs.Payments.{Payment, blocks, payments}
 use Rattle.paper.specs.Refusals.{refuse, limits_refusal}
-use Rattle.tree.specs.Laid.{cell_of, LaidAt}
-use Rattle.rule_limits.specs.declared.Limits.{Limits}
-use Rattle.rule_limits.specs.declared.Limits.TheVariants.{Within, Excess}
+use Rattle.paper.specs.declared.Fault.{Fault}
+use Rattle.paper.specs.declared.Fault.TheVariants.{TooMany}
+use Rattle.tree.specs.Laid.{LaidAt}
+use Rattle.rule_limits.specs.declared.Many.{Many}
 use Rattle.rule_limits.specs.declared.PaymentAt.{PaymentAt}
 
 -- The payment stands there.
@@ -36,17 +37,11 @@ pub record Ordered (s tree order : List ℕ) (root : Element) : Type 0 where
   pub payments_at : PaymentsAt s tree order 0 (payments root)
 
 -- Refusal 5 as the answer says it: nothing is in excess, with the numbers of blocks and payments, all in order; or the first element in excess.
-pub data Limited (s tree order : List ℕ) (root : Element) : Limits → Type 0 where
+pub data Limited (s tree order : List ℕ) (root : Element) : Result Many Fault → Type 0 where
   is_within : {b p : ℕ} → limits_refusal root ≡ none → length (blocks root) ≡ b → length (payments root) ≡ p → Ordered s tree order root
-      → Limited s tree order root (Within b p)
-  is_excess : {element offset : ℕ} → limits_refusal root ≡ refuse 5 element offset → Limited s tree order root (Excess element offset)
-
--- The answer after the walk: nothing is in excess; or element `excess` is, of row `element`, at the offset of its `<`.
-pub data Said (tree : List ℕ) (blocks payments element excess : ℕ) : Limits → Type 0 where
-  says_within : element ≡ 0 → Said tree blocks payments element excess (Within blocks payments)
-  says_excess : {offset : ℕ} → (element ≡ 0 → ⊥) → (excess < 4700 → offset ≡ cell_of tree excess 0) → Said tree blocks payments element excess (Excess element offset)
+      → Limited s tree order root (Ok (record { blocks = b; payments = p }))
+  is_excess : {element offset : ℕ} → limits_refusal root ≡ refuse 5 element offset → Limited s tree order root (Err (TooMany element offset))
 
 -- at most 16 blocks and 64 payments
-abbrev pub Few : Limits → Type 0
-Few (Within b p) = (b ≤ 16) × (p ≤ 64)
-Few (Excess element offset) = Unit
+abbrev pub Few : Result Many Fault → Type 0
+Few r = IfOk r (λ many. (many.blocks ≤ 16) × (many.payments ≤ 64))

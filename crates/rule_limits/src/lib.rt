@@ -6,14 +6,16 @@ ghost use Rattle.std.proofs.Math.Option.{some};
 ghost use Rattle.paper.specs.Form.{Element};
 ghost use Rattle.paper.specs.Payments.{child};
 ghost use Rattle.tree.specs.Laid.{LaidAt};
-ghost use Rattle.rule_limits.specs.Ordered.{Limited, Said, Few, payment_in};
+ghost use Rattle.rule_limits.specs.Ordered.{Limited, Few, payment_in};
 
+use paper::Fault;
 use tree::Tree;
-use tree_routes::Found;
 
 // The elements of at most 16 blocks, and for each of at most 64 payments its own element, its block's element and its block's number.
+// One list of numbers, not arrays of structs: `payment_in` and `PaymentsAt` of specs/Ordered.antt, on which the promises of the crates above rest, read this list.
 pub const NUMBERS: usize = paper::MOST_BLOCKS + 3 * paper::MOST_PAYMENTS;
 
+// No type carries `Ordered`, nor the length 208, which is a premise where it is written to: what is promised holds for any order that is lent (docs/PROMISES.md).
 pub type Order = [u16; NUMBERS];
 
 // Where a payment stands: its own element and its block's element; and its block's number.
@@ -24,27 +26,28 @@ pub struct PaymentAt {
     pub number: usize,
 }
 
-// What refusal 5 says: nothing is in excess, with these numbers of blocks and payments; or the first excess element's row and offset.
+// How many blocks and payments a message has.
 #[derive(Clone, Copy)]
-pub enum Limits {
-    Within { blocks: usize, payments: usize },
-    Excess { element: usize, offset: usize },
+pub struct Many {
+    pub blocks: usize,
+    pub payments: usize,
 }
 
 fn narrow(x: usize) -> u16
     ensures { x < 65536 → result ≡ x }
 {
-    (x % 65536) as u16
+    u16::try_from(x).unwrap_or_default()
 }
 
 // The element of block k.
+// (0, and no Option, past the last, as in `payment`: promised as numbers, which a caller that keeps the condition never sees.)
 pub fn block(order: &Order, k: usize) -> usize
     ensures { k < 16 → result ≡ get_or order.now k 0 }
 {
     if paper::MOST_BLOCKS <= k {
         return 0;
     }
-    tree::wide(order[k])
+    usize::from(order[k])
 }
 
 // Payment k.
@@ -59,9 +62,9 @@ pub fn payment(order: &Order, k: usize) -> PaymentAt
         };
     }
     PaymentAt {
-        own: tree::wide(order[16 + 3 * k]),
-        block: tree::wide(order[17 + 3 * k]),
-        number: tree::wide(order[18 + 3 * k]),
+        own: usize::from(order[16 + 3 * k]),
+        block: usize::from(order[17 + 3 * k]),
+        number: usize::from(order[18 + 3 * k]),
     }
 }
 
@@ -90,21 +93,10 @@ fn put_payment(order: &mut Order, k: usize, own: usize, block: usize, number: us
     order[18 + 3 * k] = narrow(number);
 }
 
-// What refusal 5 says after the walk: `element` is the row of the element in excess, 0 where there is none, and `excess` that element.
-fn said(tree: &Tree, blocks: usize, payments: usize, element: usize, excess: usize) -> Limits
-    ensures { Said tree.now blocks payments element excess result }
-{
-    if element == 0 {
-        return Limits::Within { blocks, payments };
-    }
-    Limits::Excess {
-        element,
-        offset: tree::cell(tree, excess, 0),
-    }
-}
-
 // The walk over the blocks of element `initiation` and the payments of each, left at the first element in excess.
-fn walk(tree: &Tree, order: &mut Order, initiation: usize) -> Limits
+// (Left by its label, a form that was asked for (docs/DECISIONS.md), so the fault waits in an Option. Both walks stay a `while`: where the next element begins the tree says, and blocks
+// and payments are counted as they are met.)
+fn walk(tree: &Tree, order: &mut Order, initiation: usize) -> Result<Many, Fault>
     ensures { Few result × ((s : List ℕ) (root holder : Element) → child 2 root ≡ some holder → LaidAt s tree.now initiation holder
         → 208 ≤ length order.old → Limited s tree.now order.new root result) }
 {
@@ -112,12 +104,13 @@ fn walk(tree: &Tree, order: &mut Order, initiation: usize) -> Limits
     let mut block = tree_routes::first_in(tree, initiation, 10);
     let mut blocks = 0;
     let mut payments = 0;
-    let mut element = 0;
-    let mut excess = 0;
+    let mut excess = None;
     'blocks: while block < stop {
         if blocks == paper::MOST_BLOCKS {
-            element = 10;
-            excess = block;
+            excess = Some(Fault::TooMany {
+                element: 10,
+                offset: tree::cell(tree, block, 0),
+            });
             break 'blocks;
         }
         put_block(order, blocks, block);
@@ -125,8 +118,10 @@ fn walk(tree: &Tree, order: &mut Order, initiation: usize) -> Limits
         let mut own = tree_routes::first_in(tree, block, 37);
         while own < after {
             if payments == paper::MOST_PAYMENTS {
-                element = 37;
-                excess = own;
+                excess = Some(Fault::TooMany {
+                    element: 37,
+                    offset: tree::cell(tree, own, 0),
+                });
                 break 'blocks;
             }
             put_payment(order, payments, own, block, blocks);
@@ -136,20 +131,23 @@ fn walk(tree: &Tree, order: &mut Order, initiation: usize) -> Limits
         blocks += 1;
         block = tree_routes::next_in(tree, block, stop, 10);
     }
-    said(tree, blocks, payments, element, excess)
+    match excess {
+        None => Ok(Many { blocks, payments }),
+        Some(fault) => Err(fault),
+    }
 }
 
-// Refusal 5, and the order of blocks and payments (specs/Ordered.antt).
-pub fn limits_refusal(tree: &Tree, order: &mut Order) -> Limits
+// Refusal 5, or else the numbers of blocks and payments; and the order of blocks and payments (specs/Ordered.antt).
+// (How many stand there is told beside, as `Few` says: no Vec, no heap, and the rules take these numbers by themselves.)
+pub fn limits_refusal(tree: &Tree, order: &mut Order) -> Result<Many, Fault>
     ensures { Few result × ((s : List ℕ) (root : Element) → LaidAt s tree.now 0 root → 208 ≤ length order.old
         → Limited s tree.now order.new root result) }
 {
-    let top = tree_routes::child(tree, 0, 2);
-    let Found::At(initiation) = top else {
-        return Limits::Within {
+    let Some(initiation) = tree_routes::child(tree, 0, 2) else {
+        return Ok(Many {
             blocks: 0,
             payments: 0,
-        };
+        });
     };
     walk(tree, order, initiation)
 }

@@ -15,8 +15,8 @@ use Rattle.paper.proofs.Laws.{amount_is, no_amount}
 use Rattle.form_names.specs.Names.{is_sought}
 use Rattle.tree.specs.Laid.{LaidAt}
 use Rattle.tree_routes.specs.Finds.{Finds, found_at, onward}
-use Rattle.tree_routes.specs.declared.Found.{Found}
-use Rattle.tree_routes.specs.declared.Found.TheVariants.{At, Nothing}
+use Rattle.std.specs.Prelude.{Some, None}
+use Rattle.std.specs.Prelude as code
 use Rattle.tree_routes.proofs.Laws.{onward_some}
 use Rattle.tree_routes.proofs.WhatIsFound.{found_none, found_some}
 use Rattle.rule_limits.specs.declared.PaymentAt.{PaymentAt}
@@ -25,17 +25,17 @@ use Rattle.rule_limits.proofs.First.{FirstPayment, first_payment, no_payment_lef
 use Rattle.tree_leaves.specs.Readable.{ReadMoney, ReadPayment}
 
 -- what `follow` finds from an element that is laid out
-pub route_found : {s tree : List ℕ} {i : ℕ} {f : Found} (route : List ℕ) {t : Element} → every is_sought route ≡ true → LaidAt s tree i t
-    → ((o : Option Element) → every is_sought route ≡ true → Finds s tree o (At i) → Finds s tree (onward route o) f) → Finds s tree (follow route t) f
+pub route_found : {s tree : List ℕ} {i : ℕ} {f : code.Option ℕ} (route : List ℕ) {t : Element} → every is_sought route ≡ true → LaidAt s tree i t
+    → ((o : Option Element) → every is_sought route ≡ true → Finds s tree o (Some i) → Finds s tree (onward route o) f) → Finds s tree (follow route t) f
 route_found {s} {tree} {f = f} route {t} rows l h =
     subst (λ (o : Option Element). Finds s tree o f) (onward_some route t) (h (some t) rows (found_at l))
 
 -- the amount of a payment, by what was found
-module _ {s tree : List ℕ} {f : Found} where
-  pub amount_absent : (t : Element) → Finds s tree (instructed_amount t) f → f ≡ Nothing → 0 ≡ amount_of t
+module _ {s tree : List ℕ} {f : code.Option ℕ} where
+  pub amount_absent : (t : Element) → Finds s tree (instructed_amount t) f → f ≡ None → 0 ≡ amount_of t
   amount_absent t found e = sym (no_amount t (found_none found e))
 
-  pub amount_there : (t : Element) {i r : ℕ} → Finds s tree (instructed_amount t) f → f ≡ At i
+  pub amount_there : (t : Element) {i r : ℕ} → Finds s tree (instructed_amount t) f → f ≡ Some i
       → ((u : Element) → LaidAt s tree i u → money (text_of u) ≡ true → r ≡ cents (text_of u))
       → ReadMoney (instructed_amount t) → r ≡ amount_of t
   amount_there t found e h read =

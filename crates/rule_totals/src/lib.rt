@@ -11,16 +11,18 @@ ghost use Rattle.tree_leaves.specs.Readable.{ReadMoney, ReadPayment};
 
 use rule_limits::Order;
 use tree::Tree;
-use tree_routes::Found;
+
+// Message, tree and order stay parameters: one message is at work here, so nothing can be taken for another's, and in a struct
+// of what is lent each contract would say `message.entry.tree.now` for `tree.now`.
 
 // The instructed amount of the payment at element `own`, in cents; below 10^17 whatever is given.
+// (0, and no Option, where there is none: promised below 10^17 whatever is given.)
 pub fn amount(s: &[u8], tree: &Tree, own: usize) -> u64
     ensures { (result < 10 ^ 17) × ((t : Element) → LaidAt s.now tree.now own t → ReadMoney (follow (41 ∷ 42 ∷ []) t) → result ≡ amount_of t) }
 {
-    let found = tree_routes::follow(tree, Found::At(own), &[41, 42]);
-    match found {
-        Found::Nothing => 0,
-        Found::At(i) => tree_leaves::cents_at(s, tree, i),
+    match tree_routes::follow(tree, Some(own), &[41, 42]) {
+        None => 0,
+        Some(i) => tree_leaves::cents_at(s, tree, i),
     }
 }
 
@@ -34,10 +36,8 @@ pub fn sum_of(s: &[u8], tree: &Tree, order: &Order, from: usize, to: usize) -> u
         return 0;
     }
     let mut sum: u64 = 0;
-    let mut k = from;
-    while k < to {
+    for k in from..to {
         sum += amount(s, tree, rule_limits::payment(order, k).own);
-        k += 1;
     }
     sum
 }

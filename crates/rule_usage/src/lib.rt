@@ -11,86 +11,74 @@ ghost use Rattle.tree.specs.Laid.{LaidAt};
 ghost use Rattle.tree_routes.specs.Finds.{ByName};
 ghost use Rattle.rule_limits.specs.Ordered.{Ordered};
 
-use paper::{Fault, Finding};
+use paper::Fault;
 use rule_limits::Order;
 use tree::Tree;
-use tree_routes::{Children, Found};
+use tree_routes::Children;
+
+// First children of the payment and of its block stay two parameters: a struct of two that are lent would be read as `of.entry.own.now` in each contract, which is no plainer.
 
 // 9: the row stands in the payment and in its block.
-fn in_both(tree: &Tree, own: &Children, block: &Children, row: usize) -> Finding
+fn in_both(tree: &Tree, own: &Children, block: &Children, row: usize) -> Result<(), Fault>
     ensures { (s : List ℕ) (p : Payment) → is_sought row ≡ true → ByName s tree.now p.own own.now
         → ByName s tree.now p.block block.now → refusal_found result ≡ in_both row p }
 {
-    let mine = tree_routes::first(own, row);
-    let Found::At(i) = mine else {
-        return Finding::Nothing;
+    let Some(i) = tree_routes::first(own, row) else {
+        return Ok(());
     };
     let theirs = tree_routes::first(block, row);
-    let Found::At(_) = theirs else {
-        return Finding::Nothing;
-    };
-    Finding::Refused(Fault::InPaymentAndBlock {
+    if theirs.is_none() {
+        return Ok(());
+    }
+    Err(Fault::InPaymentAndBlock {
         element: row,
         offset: tree::cell(tree, i, 0),
     })
 }
 
 // 10: row 16 stands in neither. The payment's element is `at`.
-fn in_neither(tree: &Tree, at: usize, own: &Children, block: &Children) -> Finding
+fn in_neither(tree: &Tree, at: usize, own: &Children, block: &Children) -> Result<(), Fault>
     ensures { (s : List ℕ) (p : Payment) → LaidAt s tree.now at p.own → ByName s tree.now p.own own.now
         → ByName s tree.now p.block block.now → refusal_found result ≡ in_neither 16 p }
 {
     let mine = tree_routes::first(own, 16);
-    if let Found::At(_) = mine {
-        return Finding::Nothing;
+    if mine.is_some() {
+        return Ok(());
     }
     let theirs = tree_routes::first(block, 16);
-    if let Found::At(_) = theirs {
-        return Finding::Nothing;
+    if theirs.is_some() {
+        return Ok(());
     }
-    Finding::Refused(Fault::InNeither {
+    Err(Fault::InNeither {
         offset: tree::cell(tree, at, 0),
     })
 }
 
 // 9 and 10 of the payment whose element is `at`: 16, 36, 34.
-fn in_payment(tree: &Tree, at: usize, block: &Children) -> Finding
+fn in_payment(tree: &Tree, at: usize, block: &Children) -> Result<(), Fault>
     ensures { (s : List ℕ) (p : Payment) → LaidAt s tree.now at p.own → ByName s tree.now p.block block.now
         → refusal_found result ≡ usage_of p }
 {
     let own = tree_routes::by_name(tree, at);
-    let types = in_both(tree, &own, block, 16);
-    let Finding::Nothing = types else {
-        return types;
-    };
-    let no_type = in_neither(tree, at, &own, block);
-    let Finding::Nothing = no_type else {
-        return no_type;
-    };
-    let charges = in_both(tree, &own, block, 36);
-    let Finding::Nothing = charges else {
-        return charges;
-    };
+    in_both(tree, &own, block, 16)?;
+    in_neither(tree, at, &own, block)?;
+    in_both(tree, &own, block, 36)?;
     in_both(tree, &own, block, 34)
 }
 
-// 9 and 10: one walk over the payments, in their order. The first children of a block are known while the block stays the same; of no element at first.
-pub fn usage_refusal(tree: &Tree, order: &Order, payments: usize) -> Finding
+// 9 and 10: one walk over the payments, in their order. The first children of a block are known while the block stays the same; of no element at first. (No Option for no
+// element: `by_name_again` takes the number of the one that is known.)
+pub fn usage_refusal(tree: &Tree, order: &Order, payments: usize) -> Result<(), Fault>
     ensures { (s : List ℕ) (root : Element) → Ordered s tree.now order.now root → payments ≡ length (all_payments root) → payments ≤ 64
         → refusal_found result ≡ usage_refusal root }
 {
-    let mut k = 0;
     let mut known = tree::ELEMENTS;
     let mut block = tree_routes::by_name(tree, known);
-    while k < payments {
+    for k in 0..payments {
         let payment = rule_limits::payment(order, k);
         block = tree_routes::by_name_again(tree, payment.block, known, block);
         known = payment.block;
-        let found = in_payment(tree, payment.own, &block);
-        let Finding::Nothing = found else {
-            return found;
-        };
-        k += 1;
+        in_payment(tree, payment.own, &block)?;
     }
-    Finding::Nothing
+    Ok(())
 }

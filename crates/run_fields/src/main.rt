@@ -4,185 +4,151 @@
 // and list, which asks for the second regrouped from the first and for the first regrouped from the second; and a line feed.
 #![tactic(auto)]
 
-ghost use Rattle.std.specs.Prelude.{◌<◌, length};
-
 use paper::Profile;
 use std::io;
+use verdict_answers::OfRegrouping;
 
-// `8 "Study 12"`
-fn quoted(rt: &impl Print, s: &[u8]) -> io::Result<()> {
-    run_printing::number(rt, s.len() as u64)?;
-    run_printing::text(rt, b" \"")?;
-    run_printing::text(rt, s)?;
-    run_printing::text(rt, b"\"")
+// What a case asks for.
+#[derive(Clone, Copy)]
+enum Asked<'a> {
+    Fields {
+        message: &'a [u8],
+        payment: usize,
+        first: usize,
+        last: usize,
+    },
+    Regroupings {
+        first: &'a [u8],
+        second: &'a [u8],
+        list: &'a [u8],
+    },
 }
 
-fn field_line(
-    rt: &impl Print,
+#[derive(Clone, Copy)]
+struct Case<'a> {
+    name: &'a [u8],
     profile: Profile,
-    name: &[u8],
-    message: &[u8],
-    payment: usize,
-    field: usize,
-) -> io::Result<()> {
-    run_printing::text(rt, name)?;
-    run_printing::text(rt, b", payment ")?;
-    run_printing::number(rt, payment as u64)?;
-    run_printing::text(rt, b", field ")?;
-    run_printing::number(rt, field as u64)?;
-    run_printing::text(rt, b": ")?;
-    quoted(rt, verdict_reader::field(profile, message, payment, field))?;
-    run_printing::text(rt, b"\n")
+    asked: Asked<'a>,
 }
 
-fn each_field(
-    rt: &impl Print,
-    profile: Profile,
-    name: &[u8],
-    message: &[u8],
-    payment: usize,
-    first: usize,
-    last: usize,
-) -> io::Result<()> {
-    for field in first..=last {
-        field_line(rt, profile, name, message, payment, field)?;
-    }
-    Ok(())
-}
-
-fn profile_of(number: usize, archived: bool) -> Profile {
-    Profile {
-        instant: number == 1,
-        archived,
-    }
-}
-
-// The fields of the message at an offset, from the first to the last that are asked for. Answers the offset of the next case.
-fn fields_of(
-    rt: &impl Print,
-    profile: Profile,
-    s: &[u8],
-    name: &[u8],
-    at: usize,
-) -> io::Result<usize> {
+// The fields that are asked for at an offset, and the offset of the next case.
+fn fields_at(s: &[u8], at: usize) -> (Asked<'_>, usize) {
     let payment = run_frames::number_at(s, at);
     let first = run_frames::number_at(s, payment.next);
     let last = run_frames::number_at(s, first.next);
     let message = run_frames::part_at(s, last.next);
-    let a = message.start;
-    let b = message.end;
-    each_field(
-        rt,
-        profile,
-        name,
-        &s[a..b],
-        payment.value,
-        first.value,
-        last.value,
-    )?;
-    Ok(b + 2)
+    let next = message.end + 2;
+    let asked = Asked::Fields {
+        message: &s[message],
+        payment: payment.value,
+        first: first.value,
+        last: last.value,
+    };
+    (asked, next)
 }
 
-// The fields that the case at an offset asks for. Answers the offset of the next case.
-fn fields_at(
-    rt: &impl Print,
-    archived: bool,
-    s: &[u8],
-    name: &[u8],
-    at: usize,
-) -> io::Result<usize> {
-    let number = run_frames::number_at(s, at);
-    let profile = profile_of(number.value, archived);
-    fields_of(rt, profile, s, name, number.next)
+// The regroupings that are asked for at an offset, and the offset of the next case.
+// (`published` reads the same three parts: one for both would be public, with a promise and wrong programs, for five lines.)
+fn regroupings_at(s: &[u8], at: usize) -> (Asked<'_>, usize) {
+    let first = run_frames::part_at(s, at);
+    let second = run_frames::part_at(s, first.end + 1);
+    let list = run_frames::part_at(s, second.end + 1);
+    let next = list.end + 2;
+    let asked = Asked::Regroupings {
+        first: &s[first],
+        second: &s[second],
+        list: &s[list],
+    };
+    (asked, next)
 }
 
+// The case at an offset, if one begins there, and the offset of the next.
+fn case_at(s: &[u8], archived: bool, at: usize) -> Option<(Case<'_>, usize)> {
+    let kind = *s.get(at)?;
+    let name = run_frames::part_at(s, at + 1);
+    let number = run_frames::number_at(s, name.end + 1);
+    let (asked, next) = match kind {
+        b'D' => regroupings_at(s, number.next),
+        _ => fields_at(s, number.next),
+    };
+    let case = Case {
+        name: &s[name],
+        profile: Profile {
+            instant: number.value == 1,
+            archived,
+        },
+        asked,
+    };
+    Some((case, next))
+}
+
+// `8 "Study 12"`
+fn quoted(rt: &impl Print, s: &[u8]) -> io::Result<()> {
+    print!(rt; "{} \"", s.len())?;
+    run_printing::text(rt, s)?;
+    print!(rt; "\"")
+}
+
+// What is handed back of a field that differs, and the answer.
 fn regrouping_line(
     rt: &impl Print,
     profile: Profile,
-    name: &[u8],
-    way: &[u8],
     first: &[u8],
     second: &[u8],
     list: &[u8],
 ) -> io::Result<()> {
-    run_printing::text(rt, name)?;
-    run_printing::text(rt, way)?;
     quoted(rt, move_regrouping::differing(profile, first, second, list))?;
-    run_printing::text(rt, b" ")?;
+    print!(rt; " ")?;
     let answer = move_regrouping::regroup(profile, first, second, list);
-    run_printing::regrouping(rt, verdict_answers::of_regrouping(answer))
+    run_printing::regrouping(rt, OfRegrouping::from(answer))
 }
 
-// The second regrouped from the first, and the first from the second.
-fn both_ways(
-    rt: &impl Print,
-    profile: Profile,
-    name: &[u8],
-    first: &[u8],
-    second: &[u8],
-    list: &[u8],
-) -> io::Result<()> {
-    regrouping_line(rt, profile, name, b": ", first, second, list)?;
-    regrouping_line(rt, profile, name, b", back: ", second, first, list)
-}
-
-// The regroupings of the parts at an offset. Answers the offset of the next case.
-fn each_way(
-    rt: &impl Print,
-    profile: Profile,
-    s: &[u8],
-    name: &[u8],
-    at: usize,
-) -> io::Result<usize> {
-    let first = run_frames::part_at(s, at);
-    let a = first.start;
-    let b = first.end;
-    let second = run_frames::part_at(s, b + 1);
-    let c = second.start;
-    let d = second.end;
-    let list = run_frames::part_at(s, d + 1);
-    let e = list.start;
-    let f = list.end;
-    both_ways(rt, profile, name, &s[a..b], &s[c..d], &s[e..f])?;
-    Ok(f + 2)
-}
-
-// The regroupings that the case at an offset asks for. Answers the offset of the next case.
-fn regroupings_at(
-    rt: &impl Print,
-    archived: bool,
-    s: &[u8],
-    name: &[u8],
-    at: usize,
-) -> io::Result<usize> {
-    let number = run_frames::number_at(s, at);
-    let profile = profile_of(number.value, archived);
-    each_way(rt, profile, s, name, number.next)
-}
-
-// The case at an offset. Answers the offset of the next.
-fn case_at(rt: &impl Print, archived: bool, s: &[u8], at: usize) -> io::Result<usize>
-    requires { at < length s.now }
-{
-    let kind = s[at];
-    let name = run_frames::part_at(s, at + 1);
-    let a = name.start;
-    let b = name.end;
-    if kind == b'D' {
-        return regroupings_at(rt, archived, s, &s[a..b], b + 1);
+// The lines of a case: each field that it asks for; or the second message regrouped from the first, and the first from the second.
+fn answers(rt: &impl Print, case: Case<'_>) -> io::Result<()> {
+    let Case {
+        name,
+        profile,
+        asked,
+    } = case;
+    match asked {
+        Asked::Fields {
+            message,
+            payment,
+            first,
+            last,
+        } => {
+            for field in first..=last {
+                run_printing::text(rt, name)?;
+                print!(rt; ", payment {payment}, field {field}: ")?;
+                quoted(rt, verdict_reader::field(profile, message, payment, field))?;
+                println!(rt)?;
+            }
+            Ok(())
+        }
+        Asked::Regroupings {
+            first,
+            second,
+            list,
+        } => {
+            run_printing::text(rt, name)?;
+            print!(rt; ": ")?;
+            regrouping_line(rt, profile, first, second, list)?;
+            run_printing::text(rt, name)?;
+            print!(rt; ", back: ")?;
+            regrouping_line(rt, profile, second, first, list)
+        }
     }
-    fields_at(rt, archived, s, &s[a..b], b + 1)
 }
 
+// The first 10000 cases of a file. (`run_form` says why each program has such a loop of its own.)
 fn run(rt: &impl Print, archived: bool, s: &[u8]) -> io::Result<()> {
     let mut at = 0;
-    let mut turns: u32 = 10000;
-    while turns > 0 {
-        if at >= s.len() {
-            return Ok(());
-        }
-        at = case_at(rt, archived, s, at)?;
-        turns -= 1;
+    for _ in 0..10000 {
+        let Some((case, next)) = case_at(s, archived, at) else {
+            break;
+        };
+        answers(rt, case)?;
+        at = next;
     }
     Ok(())
 }
@@ -190,8 +156,10 @@ fn run(rt: &impl Print, archived: bool, s: &[u8]) -> io::Result<()> {
 fn main(rt: HostRuntime) -> io::Result<()> {
     let errors = rt.stderr();
     let mut buffer = [0u8; 262144];
-    let n = run_frames::load(&rt, &errors, b"cases", &mut buffer)?;
-    run(&rt, false, &buffer[..n])?;
-    let m = run_frames::load(&rt, &errors, b"archived", &mut buffer)?;
-    run(&rt, true, &buffer[..m])
+    let files: [(&[u8], bool); 2] = [(b"cases", false), (b"archived", true)];
+    for (path, archived) in files {
+        let n = run_frames::load(&rt, &errors, path, &mut buffer)?;
+        run(&rt, archived, &buffer[..n])?;
+    }
+    Ok(())
 }

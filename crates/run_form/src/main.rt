@@ -3,29 +3,21 @@
 // What it must write, `stdout`, was worked out from the rules (docs/RULES.md, 2) and not by a run.
 #![tactic(auto)]
 
-ghost use Rattle.std.specs.Prelude.{◌≤◌};
-
-use form::Form;
 use std::io;
 use tree::Tree;
 
-// 1 if a text is refused because it ends too early, otherwise 0.
-fn ends_early(s: &[u8], tree: &mut Tree) -> usize
-    ensures { result ≤ 1 }
-{
-    match form::form_of(s, tree) {
-        Form::OfTheForm => 0,
-        Form::RefusedAt(n) => { if n == s.len() { 1 } else { 0 } }
-    }
+// Whether a text is refused because it ends too early.
+fn ends_early(s: &[u8], tree: &mut Tree) -> bool {
+    form::form_of(s, tree).is_err_and(|stop| stop.at == s.len())
 }
 
 // How many beginnings of a text are refused because they end too early.
 fn early(s: &[u8], tree: &mut Tree) -> usize {
     let mut n = 0;
-    let mut k = 0;
-    while k < s.len() {
-        n += ends_early(&s[..k], tree);
-        k += 1;
+    for k in 0..s.len() {
+        if ends_early(&s[..k], tree) {
+            n += 1;
+        }
     }
     n
 }
@@ -33,40 +25,30 @@ fn early(s: &[u8], tree: &mut Tree) -> usize {
 fn show(rt: &impl Print, name: &[u8], s: &[u8], tree: &mut Tree) -> io::Result<()> {
     rt.write_all(name)?;
     match form::form_of(s, tree) {
-        Form::OfTheForm => rt.write_all(b": of the form; ")?,
-        Form::RefusedAt(n) => {
-            rt.write_all(b": refused at ")?;
-            rt.print(n)?;
-            rt.write_all(b"; ")?;
-        }
+        Ok(()) => print!(rt; ": of the form; ")?,
+        Err(stop) => print!(rt; ": refused at {}; ", stop.at)?,
     }
-    rt.print(early(s, tree))?;
-    rt.write_all(b" of ")?;
-    rt.print(s.len())?;
-    rt.write_all(b" beginnings end too early\n")
+    let n = early(s, tree);
+    println!(rt; "{n} of {} beginnings end too early", s.len())
 }
 
 // The case at an offset. Answers the offset of the next.
 fn case_at(rt: &impl Print, s: &[u8], at: usize, tree: &mut Tree) -> io::Result<usize> {
     let name = run_frames::part_at(s, at);
-    let a = name.start;
-    let b = name.end;
-    let text = run_frames::part_at(s, b + 1);
-    let c = text.start;
-    let d = text.end;
-    show(rt, &s[a..b], &s[c..d], tree)?;
-    Ok(d + 2)
+    let text = run_frames::part_at(s, name.end + 1);
+    let next = text.end + 2;
+    show(rt, &s[name], &s[text], tree)?;
+    Ok(next)
 }
 
+// The first 10000 cases of the file. (Each program that reads cases has such a loop over its own: one for all would take what is done with a case as a closure with a contract.)
 fn run(rt: &impl Print, s: &[u8], tree: &mut Tree) -> io::Result<()> {
     let mut at = 0;
-    let mut turns: u32 = 10000;
-    while turns > 0 {
+    for _ in 0..10000 {
         if at >= s.len() {
             return Ok(());
         }
         at = case_at(rt, s, at, tree)?;
-        turns -= 1;
     }
     Ok(())
 }

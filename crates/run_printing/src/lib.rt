@@ -8,62 +8,57 @@ pub fn text(rt: &impl Print, s: &[u8]) -> io::Result<()> {
     rt.write_all(s)
 }
 
+// Stays beside `print`: it is listed by name (docs/PROMISES.md).
 pub fn number(rt: &impl Print, n: u64) -> io::Result<()> {
     rt.print(n)
 }
 
-// A part of the message, as much of it as there is.
+// A part of the message, where it is there.
 pub fn part(rt: &impl Print, s: &[u8], start: usize, size: usize) -> io::Result<()> {
-    if s.len() < start {
-        return Ok(());
+    match s.get(start..).and_then(|rest| rest.get(..size)) {
+        Some(part) => text(rt, part),
+        None => Ok(()),
     }
-    if s.len() - start < size {
-        return Ok(());
-    }
-    let end = start + size;
-    text(rt, &s[start..end])
-}
-
-fn said(rt: &impl Print, name: &[u8], n: u64) -> io::Result<()> {
-    text(rt, name)?;
-    number(rt, n)
 }
 
 // `REFUSED 12 element=6 offset=147`
-fn refused(rt: &impl Print, n: u64, element: u64, offset: u64) -> io::Result<()> {
-    said(rt, b"REFUSED ", n)?;
-    said(rt, b" element=", element)?;
-    said(rt, b" offset=", offset)?;
-    text(rt, b"\n")
+fn refused(rt: &impl Print, number: u64, element: u64, offset: u64) -> io::Result<()> {
+    println!(rt; "REFUSED {number} element={element} offset={offset}")
 }
 
 // The same, or `ACCEPTED blocks=2 payments=2 cents=3510`.
+// (It takes the numbers for C, as it is called by name for any of them.)
 pub fn message(rt: &impl Print, answer: OfMessage) -> io::Result<()> {
-    if answer.number > 0 {
-        return refused(rt, answer.number, answer.element, answer.offset);
+    let OfMessage {
+        number,
+        element,
+        offset,
+        blocks,
+        payments,
+        cents,
+    } = answer;
+    if number > 0 {
+        return refused(rt, number, element, offset);
     }
-    said(rt, b"ACCEPTED blocks=", answer.blocks)?;
-    said(rt, b" payments=", answer.payments)?;
-    said(rt, b" cents=", answer.cents)?;
-    text(rt, b"\n")
+    println!(rt; "ACCEPTED blocks={blocks} payments={payments} cents={cents}")
 }
 
 // `FIRST REFUSED 12 element=6 offset=147`, or `SECOND` with the like, `REFUSED 20 k=1 field=13`, or `ACCEPTED`.
 pub fn regrouping(rt: &impl Print, answer: OfRegrouping) -> io::Result<()> {
-    if answer.whose == 1 {
-        text(rt, b"FIRST ")?;
+    let OfRegrouping {
+        whose,
+        number,
+        element,
+        offset,
+        k,
+        field,
+    } = answer;
+    match whose {
+        0 if number == 0 => return println!(rt; "ACCEPTED"),
+        0 => return println!(rt; "REFUSED {number} k={k} field={field}"),
+        1 => print!(rt; "FIRST ")?,
+        2 => print!(rt; "SECOND ")?,
+        _ => {}
     }
-    if answer.whose == 2 {
-        text(rt, b"SECOND ")?;
-    }
-    if answer.whose > 0 {
-        return refused(rt, answer.number, answer.element, answer.offset);
-    }
-    if answer.number == 0 {
-        return text(rt, b"ACCEPTED\n");
-    }
-    said(rt, b"REFUSED ", answer.number)?;
-    said(rt, b" k=", answer.k)?;
-    said(rt, b" field=", answer.field)?;
-    text(rt, b"\n")
+    refused(rt, number, element, offset)
 }

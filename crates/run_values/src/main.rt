@@ -2,17 +2,16 @@
 // length, currency and text, in fixed columns; or `=` and an account, each character of which is changed to every other capital or digit.
 #![tactic(auto)]
 
-ghost use Rattle.std.specs.Prelude.{◌≤◌, ◌<◌, length, IfOk};
+ghost use Rattle.std.specs.Prelude.{◌≡◌, ◌<◌, ◌≤◌, length};
 
-use leaf_values::Judgement;
+use leaf_values::Unfit;
 use std::io;
 use std::io::Input;
 
-fn say(rt: &impl Print, text: &[u8]) -> io::Result<()> {
-    rt.write_all(text)
-}
+// What a character of an account is changed to.
+const OTHERS: &[u8; 36] = b"ABCDEFGHIJKLMNOPQRSTUVWXYZ0123456789";
 
-// Prints the answer on a line's value, of which nothing is known before, and the line.
+// Prints the answer on a line's value, of which nothing is known before, and the line. (No `From` leads from a `u64` to a `usize`: `as`.)
 fn judge(rt: &impl Print, line: &[u8]) -> io::Result<()> {
     if line.len() < 14 {
         return Ok(());
@@ -21,147 +20,70 @@ fn judge(rt: &impl Print, line: &[u8]) -> io::Result<()> {
     let parent = leaf_numbers::number(&line[3..5]) as usize;
     let longest = leaf_numbers::number(&line[6..9]) as usize;
     match leaf_values::leaf(parent, row, longest, &line[10..13], &line[14..], 0) {
-        Judgement::Fine => say(rt, b"fine ")?,
-        Judgement::EmptyOrTooLong => say(rt, b"6 ")?,
-        Judgement::NotInTheSet { at } => {
-            say(rt, b"7@")?;
-            rt.print(at)?;
-            say(rt, b" ")?;
-        }
-        Judgement::NotAllowed => say(rt, b"8 ")?,
+        Ok(()) => print!(rt; "fine ")?,
+        Err(Unfit::EmptyOrTooLong) => print!(rt; "6 ")?,
+        Err(Unfit::NotInTheSet { at }) => print!(rt; "7@{at} ")?,
+        Err(Unfit::NotAllowed) => print!(rt; "8 ")?,
     }
-    say(rt, line)?;
-    say(rt, b"\n")
+    rt.write_all(line)?;
+    println!(rt)
 }
 
-// Prints the text where it is an account.
-fn report(rt: &impl Print, w: &[u8]) -> io::Result<u64>
-    ensures { IfOk result (λ n. n ≤ 1) }
+// The account with another character at a place: prints it where it is an account too, and says whether it is.
+fn changed(rt: &impl Print, w: &mut [u8], i: usize, c: u8) -> io::Result<bool>
+    requires { i < length w.old }
+    ensures { length w.new ≡ length w.old }
 {
-    if !leaf_accounts::iban(w) {
-        return Ok(0);
-    }
-    say(rt, w)?;
-    say(rt, b"\n")?;
-    Ok(1)
-}
-
-// The account with another character at a place.
-fn changed(rt: &impl Print, w: &mut [u8], i: usize, c: u8) -> io::Result<u64>
-    ensures { IfOk result (λ n. n ≤ 1) }
-{
-    if w.len() <= i {
-        return Ok(0);
-    }
     let own = w[i];
     if own == c {
-        return Ok(0);
+        return Ok(false);
     }
     w[i] = c;
-    let n = report(rt, w)?;
+    let is_account = leaf_accounts::iban(w);
+    if is_account {
+        rt.write_all(w)?;
+        println!(rt)?;
+    }
     w[i] = own;
-    Ok(n)
+    Ok(is_account)
 }
 
-// The capitals and then the digits.
-fn nth(k: u8) -> u8 {
-    if k < 26 {
-        return b'A' + k;
-    }
-    if k < 36 {
-        return b'0' + (k - 26);
-    }
-    b'0'
-}
-
-fn changed_to_all(rt: &impl Print, w: &mut [u8], i: usize) -> io::Result<u64>
-    ensures { IfOk result (λ n. n ≤ 36) }
+// How many accounts stand beside this one.
+fn changed_everywhere(rt: &impl Print, w: &mut [u8]) -> io::Result<u64>
+    requires { length w.old ≤ 34 }
 {
-    let mut n: u64 = 0;
-    let mut k: u8 = 0;
-    while k < 36 {
-        n = n + changed(rt, w, i, nth(k))?;
-        k += 1;
+    let mut n = 0u64;
+    for i in 0..w.len() {
+        for &c in OTHERS {
+            if changed(rt, w, i, c)? {
+                n += 1;
+            }
+        }
     }
     Ok(n)
-}
-
-fn changed_everywhere(rt: &impl Print, w: &mut [u8]) -> io::Result<u64> {
-    let mut n: u64 = 0;
-    let mut i = 0;
-    while i < w.len() {
-        if i == 34 {
-            return Ok(n);
-        }
-        n = n + changed_to_all(rt, w, i)?;
-        i += 1;
-    }
-    Ok(n)
-}
-
-// Copies what fits.
-fn copy(w: &mut [u8], s: &[u8]) {
-    let mut i = 0;
-    while i < s.len() {
-        if w.len() <= i {
-            return;
-        }
-        w[i] = s[i];
-        i += 1;
-    }
 }
 
 fn neighbours(rt: &impl Print, s: &[u8]) -> io::Result<()> {
     let mut w = [0u8; 34];
-    let size = s.len();
-    if 34 < size {
+    if s.len() > w.len() {
         return Ok(());
     }
-    copy(&mut w, s);
-    let n = changed_everywhere(rt, &mut w[..size])?;
-    rt.print(n)?;
-    say(rt, b" accounts beside ")?;
-    say(rt, s)?;
-    say(rt, b"\n")
-}
-
-fn line(rt: &impl Print, s: &[u8]) -> io::Result<()> {
-    if s.len() < 1 {
-        return Ok(());
-    }
-    if s[0] == b'=' {
-        return neighbours(rt, &s[1..]);
-    }
-    judge(rt, s)
-}
-
-// Where the line that starts here ends.
-fn end_of(s: &[u8], start: usize) -> usize
-    requires { start ≤ length s.now }
-    ensures { (start ≤ result) × (result ≤ length s.now) }
-{
-    let mut i = start;
-    while i < s.len() {
-        if s[i] == b'\n' {
-            return i;
-        }
-        i += 1;
-    }
-    i
-}
-
-fn lines(rt: &impl Print, s: &[u8]) -> io::Result<()> {
-    let mut at = 0;
-    while at < s.len() {
-        let end = end_of(s, at);
-        line(rt, &s[at..end])?;
-        at = end + 1;
-    }
-    Ok(())
+    let account = &mut w[..s.len()];
+    account.copy_from_slice(s);
+    let n = changed_everywhere(rt, account)?;
+    print!(rt; "{n} accounts beside ")?;
+    rt.write_all(s)?;
+    println!(rt)
 }
 
 fn main(rt: HostRuntime) -> io::Result<()> {
     let mut buf = [0u8; 65536];
     let n = run_reading::fill(&mut rt.reader(), &mut buf)?;
-    lines(&rt, &buf[..n])
+    for line in buf[..n].split(|&b| b == b'\n') {
+        match line {
+            [b'=', account @ ..] => neighbours(&rt, account)?,
+            _ => judge(&rt, line)?,
+        }
+    }
+    Ok(())
 }

@@ -2,84 +2,40 @@
 // and end-to-end id.
 #![tactic(auto)]
 
+ghost use Rattle.std.specs.Prelude.{◌≡◌, length};
+
 use paper::Profile;
 use std::io;
 use std::io::Input;
+use verdict_answers::OfMessage;
 
-fn wide(x: u32) -> u64 {
-    x as u64
+// The part of the message that starts there and is so long. (No `From` leads to a `usize` from more than 16 bits: `as`.)
+fn part(rt: &impl Print, message: &[u8], start: u32, size: u32) -> io::Result<()> {
+    run_printing::part(rt, message, start as usize, size as usize)
 }
 
-// Number k of payment i, 0 where the table has none.
-fn number(table: &[u32], i: usize, k: usize) -> u64 {
-    if paper::MOST_PAYMENTS <= i {
-        return 0;
-    }
-    if paper::NUMBERS_PER_PAYMENT <= k {
-        return 0;
-    }
-    let at = paper::NUMBERS_PER_PAYMENT * i + k;
-    if table.len() <= at {
-        return 0;
-    }
-    wide(table[at])
+// The line of payment i, whose numbers in the table are these.
+fn payment(rt: &impl Print, message: &[u8], i: usize, row: &[u32]) -> io::Result<()>
+    requires { length row.now ≡ 20 }
+{
+    print!(rt; "{i} {} ", row[0])?;
+    part(rt, message, row[11], row[12])?;
+    print!(rt; " ")?;
+    part(rt, message, row[3], row[4])?;
+    print!(rt; " {} ", u64::from(row[13]) * 100 + u64::from(row[14]))?;
+    part(rt, message, row[1], row[2])?;
+    println!(rt)
 }
 
-// The part of the message whose start and length are numbers `start` and `size` of payment i.
-fn part(
-    rt: &impl Print,
-    message: &[u8],
-    table: &[u32],
-    i: usize,
-    start: usize,
-    size: usize,
-) -> io::Result<()> {
-    run_printing::part(
-        rt,
-        message,
-        number(table, i, start) as usize,
-        number(table, i, size) as usize,
-    )
-}
-
-fn cents(table: &[u32], i: usize) -> u64 {
-    let euros = number(table, i, 13);
-    let rest = number(table, i, 14);
-    if 4294967295 < euros {
-        return 0;
-    }
-    if 4294967295 < rest {
-        return 0;
-    }
-    euros * 100 + rest
-}
-
-fn payment(rt: &impl Print, message: &[u8], table: &[u32], i: usize) -> io::Result<()> {
-    run_printing::number(rt, i as u64)?;
-    run_printing::text(rt, b" ")?;
-    run_printing::number(rt, number(table, i, 0))?;
-    run_printing::text(rt, b" ")?;
-    part(rt, message, table, i, 11, 12)?;
-    run_printing::text(rt, b" ")?;
-    part(rt, message, table, i, 3, 4)?;
-    run_printing::text(rt, b" ")?;
-    run_printing::number(rt, cents(table, i))?;
-    run_printing::text(rt, b" ")?;
-    part(rt, message, table, i, 1, 2)?;
-    run_printing::text(rt, b"\n")
-}
-
-fn each_payment(rt: &impl Print, message: &[u8], table: &[u32], payments: usize) -> io::Result<()> {
-    for i in 0..payments {
-        payment(rt, message, table, i)?;
+// (A refused message has 0 payments, as C has it.)
+fn report(rt: &impl Print, profile: Profile, message: &[u8], table: &mut [u32]) -> io::Result<()> {
+    let answer = OfMessage::from(verdict_reader::verdict(profile, message, table));
+    run_printing::message(rt, answer)?;
+    let rows = table.chunks_exact(paper::NUMBERS_PER_PAYMENT);
+    for (i, row) in rows.take(answer.payments as usize).enumerate() {
+        payment(rt, message, i, row)?;
     }
     Ok(())
-}
-
-fn report(rt: &impl Print, profile: Profile, message: &[u8], table: &mut [u32]) -> io::Result<()> {
-    let answer = verdict_answers::of_message(verdict_reader::verdict(profile, message, table));
-    run_printing::message(rt, answer)?;
-    each_payment(rt, message, table, answer.payments as usize)
 }
 
 // What is on standard input, read in a profile.

@@ -6,68 +6,55 @@ use std::env::FillError;
 use std::io;
 use std::rt::Env;
 
-// Whether all words are known, and the profile that is asked for.
-#[derive(Drop)]
-pub struct Understood {
-    pub known: bool,
-    pub profile: Profile,
-}
-
-// What a word says, where there is one.
+// What a word says.
 #[derive(Clone, Copy)]
-enum Said {
+enum Word {
     Instant,
     Archived,
     Unknown,
-    Nothing,
 }
 
-// Word i: `archived`, or `instant` where that may be said; any other is said on standard error.
-fn word<R: Env>(rt: &R, errors: &impl Print, i: usize, may_name: bool) -> io::Result<Said> {
+// Word i, where there is one: `archived`, or `instant` where that may be said; any other is said on standard error. (`may_name` stays a flag: it guards one pattern, which a closure
+// would only repeat.)
+fn word_at<R: Env>(
+    rt: &R,
+    errors: &impl Print,
+    i: usize,
+    may_name: bool,
+) -> io::Result<Option<Word>> {
     let mut text = [0u8; 4096];
     let n = match rt.arg(i, &mut text) {
         Ok(n) => n,
-        Err(FillError::NotPresent) => return Ok(Said::Nothing),
+        Err(FillError::NotPresent) => return Ok(None),
         Err(FillError::TooLong) => 0,
     };
-    if leaf_texts::same(&text[..n], b"archived") {
-        return Ok(Said::Archived);
-    }
-    if may_name {
-        if leaf_texts::same(&text[..n], b"instant") {
-            return Ok(Said::Instant);
+    match &text[..n] {
+        b"archived" => Ok(Some(Word::Archived)),
+        b"instant" if may_name => Ok(Some(Word::Instant)),
+        unknown => {
+            errors.write_all(b"this word is not known: ")?;
+            errors.write_all(unknown)?;
+            errors.write_all(b"\n")?;
+            Ok(Some(Word::Unknown))
         }
     }
-    errors.write_all(b"this word is not known: ")?;
-    errors.write_all(&text[..n])?;
-    errors.write_all(b"\n")?;
-    Ok(Said::Unknown)
 }
 
-// The profile that a program reads in by itself, or the instant one where its words may and do name it. The message is archived where they say so.
+// The profile that a program reads in by itself, or the instant one where its words may and do name it; none where a word is not known. The message is archived where they say so.
 pub fn asked<R: Env>(
     rt: &R,
     errors: &impl Print,
     own: Profile,
     may_name: bool,
-) -> io::Result<Understood> {
-    let mut instant = own.instant;
-    let mut archived = own.archived;
+) -> io::Result<Option<Profile>> {
+    let mut profile = own;
     for i in 1..usize::MAX {
-        match word(rt, errors, i, may_name)? {
-            Said::Instant => instant = true,
-            Said::Archived => archived = true,
-            Said::Nothing => break,
-            Said::Unknown => {
-                return Ok(Understood {
-                    known: false,
-                    profile: own,
-                });
-            }
+        match word_at(rt, errors, i, may_name)? {
+            Some(Word::Instant) => profile.instant = true,
+            Some(Word::Archived) => profile.archived = true,
+            Some(Word::Unknown) => return Ok(None),
+            None => break,
         }
     }
-    Ok(Understood {
-        known: true,
-        profile: Profile { instant, archived },
-    })
+    Ok(Some(profile))
 }

@@ -11,15 +11,18 @@ pub const ELEMENTS: usize = 4700;
 
 pub const NUMBERS: usize = 6 * ELEMENTS;
 
+// One list of numbers, not 4,700 structs or arrays of six: the check of nested arrays grows with the square of their number (docs/DECISIONS.md), and there is no heap for a Vec of structs.
 pub type Tree = [u16; NUMBERS];
 
+// Stays beside `usize::from`, which says as much: it is promised by name (docs/PROMISES.md), and two wrong programs are of it.
 pub fn wide(x: u16) -> usize
     ensures { result ≡ x }
 {
-    x as usize
+    usize::from(x)
 }
 
 // Number k of element i; 0 where there is none.
+// (0, and no Option, where there is none: it is promised as a number.)
 pub fn cell(tree: &Tree, i: usize, k: usize) -> usize
     ensures { i < 4700 → k < 6 → result ≡ cell_of tree.now i k }
 {
@@ -29,7 +32,7 @@ pub fn cell(tree: &Tree, i: usize, k: usize) -> usize
     if 6 <= k {
         return 0;
     }
-    wide(tree[i * 6 + k])
+    usize::from(tree[i * 6 + k])
 }
 
 // The number of a row's name: its own, or that of the first row of this name. (Row 57 is not looked for, and a match that reaches so far would not be made part of its callers.)

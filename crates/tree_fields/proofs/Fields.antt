@@ -1,7 +1,7 @@
 -- Each field stands where its line of the table leads, or else where the other line does.
 use Prim.Native.Nat.{ℕ, ◌<◌, ◌≤◌}
 use mathlib.Core.List.{List, [], ◌∷◌, map}
-use mathlib.Core.Bool.{true}
+use mathlib.Core.Bool.{true, false}
 use mathlib.Core.Option.{Option, none}
 use mathlib.Core.Path.{◌≡◌, refl, sym, ap, ◌∙◌}
 use native.Mathlib.Omega.{arith}
@@ -15,16 +15,17 @@ use Rattle.paper.specs.Fields.{Field, plain, or_means, amount_field, remittance,
 use Rattle.paper.proofs.Laws.{both_left, both_right, either_none}
 use Rattle.form_names.specs.Names.{is_sought}
 use Rattle.form_names.proofs.Laws.{each_number, each_says}
-use Rattle.tree_routes.specs.declared.Found.{Found}
-use Rattle.tree_routes.specs.declared.Found.TheVariants.{At, Nothing}
-use Rattle.tree_routes.specs.Finds.{Finds, found_nothing, rows_in, onward}
+use Rattle.std.specs.Prelude.{None}
+use Rattle.std.specs.Prelude as code
+use Rattle.std.specs.Option.{is_some}
+use Rattle.tree_routes.specs.Finds.{Finds, found_at, found_nothing, rows_in, onward}
 use Rattle.tree_routes.proofs.Laws.{follow_step}
-use Rattle.tree_routes.proofs.WhatIsFound.{own_first, else_other}
+use Rattle.tree_routes.proofs.WhatIsFound.{absent}
 use Rattle.tree_fields.proofs.LaterRows.{later_rows}
 use Rattle.tree_fields.specs.Routes.{route_table, RoutesAre, line_of, where_followed, other_line, route_of, at_line, at_lines, of_rows}
 
 -- A line's route followed: its first row, then the others.
-pub route_leads : (line : List ℕ) (t : Element) {s tree : List ℕ} {k : ℕ} {first found : Found} → k ≡ get_or line 1 0
+pub route_leads : (line : List ℕ) (t : Element) {s tree : List ℕ} {k : ℕ} {first found : code.Option ℕ} → k ≡ get_or line 1 0
     → (is_sought k ≡ true → Finds s tree (child k t) first)
     → (every is_sought (later_rows line) ≡ true → Finds s tree (child k t) first → Finds s tree (onward (later_rows line) (child k t)) found)
     → every is_sought (route_of line) ≡ true → Finds s tree (follow (route_of line) t) found
@@ -64,13 +65,9 @@ lines_of_rows = refl
 pub table_of_rows : {table : List (List ℕ)} → RoutesAre table → (n : ℕ) → n < 21 → of_rows (get_or table n []) ≡ true
 table_of_rows e n h = rw e (each_says (λ n. of_rows (line_of n)) 21 0 lines_of_rows n (omega arith) (omega arith))
 
--- line 0 leads to nothing, and there is no line past the table
+-- there is no line past the table
 module _ {table : List (List ℕ)} (e : RoutesAre table) (p : Payment) {s tree : List ℕ} {n : ℕ} where
-  pub no_line : n ≡ 0 → Finds s tree (at_line (get_or table n []) p) Nothing
-  unfolding at_line route_table
-  no_line z = rw (z, e) found_nothing
-
-  pub past_lines : 21 ≤ n → Finds s tree (at_line (get_or table n []) p) Nothing
+  pub past_lines : 21 ≤ n → Finds s tree (at_line (get_or table n []) p) None
   unfolding at_line route_table
   past_lines h = rw (e, get_or-eq_default route_table [] h) found_nothing
 
@@ -96,14 +93,26 @@ pub past_fields : (p : Payment) {field : ℕ} → 17 < field → field_element f
 unfolding field_element fields plain or_means amount_field remittance
 past_fields p h = get_or-eq_default (none ∷ map (λ (f : Field). f.element) (fields p)) none h
 
--- A field in the lent table: its line leads to it; or leads to nothing, and the other line leads to it, or there is none.
-module _ {s tree : List ℕ} {table : List (List ℕ)} (e : RoutesAre table) (p : Payment) {field : ℕ} (h : field < 18) {found : Found} where
-  module _ (f : Finds s tree (at_line (get_or table field []) p) found) where
-    pub led_to : {i : ℕ} → found ≡ At i → Finds s tree (field_element field p) found
-    unfolding at_lines
-    led_to a = rw (a, field_by_line p field h) (own_first (at_line (line_of (other_line (line_of field))) p) (rw e at f) a)
+-- the first of two that may be absent, and the other
+own_first : {s tree : List ℕ} {o : Option Element} (other : Option Element) {found : code.Option ℕ} → Finds s tree o found → is_some found ≡ true
+    → Finds s tree (either_of o other) found
+unfolding either_of
+own_first other (found_at l) e = found_at l
+own_first other found_nothing e = cc
 
-    pub led_elsewhere : {other : ℕ} {r : Found} → found ≡ Nothing → other ≡ other_line (get_or table field []) → Finds s tree (at_line (get_or table other []) p) r
+else_other : {s tree : List ℕ} {o other : Option Element} {found r : code.Option ℕ} → Finds s tree o found → is_some found ≡ false → Finds s tree other r
+    → Finds s tree (either_of o other) r
+unfolding either_of
+else_other f e g = rw (absent f e) g
+
+-- A field in the lent table: its line leads to it; or leads to nothing, and the other line leads to it, or there is none.
+module _ {s tree : List ℕ} {table : List (List ℕ)} (e : RoutesAre table) (p : Payment) {field : ℕ} (h : field < 18) {found : code.Option ℕ} where
+  module _ (f : Finds s tree (at_line (get_or table field []) p) found) where
+    pub led_to : is_some found ≡ true → Finds s tree (field_element field p) found
+    unfolding at_lines
+    led_to a = rw (field_by_line p field h) (own_first (at_line (line_of (other_line (line_of field))) p) (rw e at f) a)
+
+    pub led_elsewhere : {r : code.Option ℕ} → is_some found ≡ false → Finds s tree (at_line (get_or table (other_line (get_or table field [])) []) p) r
         → Finds s tree (field_element field p) r
     unfolding at_lines
-    led_elsewhere a b g = rw (field_by_line p field h) (else_other (rw e at f) a (rw (b, e) at g))
+    led_elsewhere a g = rw (field_by_line p field h) (else_other (rw e at f) a (rw e at g))

@@ -11,10 +11,14 @@ ghost use Rattle.tree_routes.specs.Finds.{Finds, ByName};
 ghost use Rattle.tree_fields.specs.Routes.{RoutesAre, route_of, at_line, of_rows};
 
 use tree::Tree;
-use tree_routes::{Children, Found};
+use tree_routes::Children;
+
+const FIELDS: usize = 17;
 
 // For each field where it stands (1 in the payment, 2 in its block, 3 in the payment or else in its block), the rows of its route, and the line of another
 // route that is followed where this one leads to nothing. A const table is made anew wherever it is used: make it once, and lend it.
+// The places 1, 2 and 3 stay numbers, no enum, and 0 for no row and no other line no Option: callers lend this type, whose table `RoutesAre` compares with `route_table` of specs/Routes.antt.
+// No type carries the fact `RoutesAre`: `field_at` and the crates above it answer for any table that is lent (docs/PROMISES.md), and such a type would ask more of their callers.
 pub type Routes = [[u16; 6]; 21];
 
 const ROUTES: Routes = [
@@ -47,18 +51,20 @@ pub fn routes() -> Routes
     ROUTES
 }
 
+// First children of the payment and of its block stay two parameters: the comparison of two payments has them in a struct of its own (`move_compared::Place`), all others one pair alone.
+
 // A line's route, in an element whose first children are known.
-fn within(tree: &Tree, children: &Children, line: &[u16; 6]) -> Found
+fn within(tree: &Tree, children: &Children, line: &[u16; 6]) -> Option<usize>
     ensures { (s : List ℕ) (t : Element) → every is_sought (route_of line.now) ≡ true → ByName s tree.now t children.now
         → Finds s tree.now (follow (route_of line.now) t) result }
 {
-    let first = tree_routes::first(children, tree::wide(line[1]));
+    let first = tree_routes::first(children, usize::from(line[1]));
     let route = [line[2], line[3], line[4]];
     tree_routes::follow(tree, first, &route)
 }
 
 // What a line of the table leads to, in a payment whose first children are known, and its block's.
-fn along(tree: &Tree, own: &Children, block: &Children, line: &[u16; 6]) -> Found
+fn along(tree: &Tree, own: &Children, block: &Children, line: &[u16; 6]) -> Option<usize>
     ensures { (s : List ℕ) (p : Payment) → of_rows line.now ≡ true → ByName s tree.now p.own own.now
         → ByName s tree.now p.block block.now → Finds s tree.now (at_line line.now p) result }
 {
@@ -66,7 +72,7 @@ fn along(tree: &Tree, own: &Children, block: &Children, line: &[u16; 6]) -> Foun
         1 => within(tree, own, line),
         2 => within(tree, block, line),
         3 => tree_routes::either(within(tree, own, line), within(tree, block, line)),
-        _ => Found::Nothing,
+        _ => None,
     }
 }
 
@@ -77,23 +83,18 @@ pub fn field_at(
     own: &Children,
     block: &Children,
     field: usize,
-) -> Found
+) -> Option<usize>
     ensures { (s : List ℕ) (p : Payment) → RoutesAre routes.now → ByName s tree.now p.own own.now
         → ByName s tree.now p.block block.now → Finds s tree.now (field_element field p) result }
 {
-    if 17 < field {
-        return Found::Nothing;
+    if FIELDS < field {
+        return None;
     }
-    let found = along(tree, own, block, &routes[field]);
-    let Found::Nothing = found else {
+    let line = &routes[field];
+    let found = along(tree, own, block, line);
+    if found.is_some() {
         return found;
-    };
-    let other = tree::wide(routes[field][5]);
-    if other == 0 {
-        return Found::Nothing;
     }
-    if 21 <= other {
-        return Found::Nothing;
-    }
-    along(tree, own, block, &routes[other])
+    let other = routes.get(usize::from(line[5]))?;
+    along(tree, own, block, other)
 }

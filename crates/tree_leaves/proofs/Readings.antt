@@ -1,38 +1,24 @@
 -- What a leaf says as a number.
-use Rattle.std.specs.Prelude.{if◌then◌else◌}
-use Prim.Native.Nat.{ℕ}
+use Prim.Native.Nat.{ℕ, ◌^◌, ◌<◌}
 use mathlib.Core.List.{List}
-use mathlib.Core.Bool.{Bool, true, false}
-use mathlib.Core.Path.{◌≡◌, sym, ap, ◌∙◌}
+use mathlib.Core.Bool.{true}
+use mathlib.Core.Path.{◌≡◌, refl, sym, ap, ◌∙◌}
 use native.Mathlib.Omega.{arith}
+use Rattle.std.specs.Prelude.{Option, Some, None, unwrap_or}
 use Rattle.paper.specs.Values.{number, cents, digits, money}
-use Rattle.paper.proofs.Laws.{false_not_true}
-use Rattle.leaf_numbers.specs.declared.Reading.{Reading}
-use Rattle.leaf_numbers.specs.declared.Reading.TheVariants.{Not, Number}
 use Rattle.leaf_numbers.specs.Readings.{as_count, in_cents}
+use Rattle.leaf_money.proofs.InCents.{reading_is}
 
 -- what a reading says of a text that is right
-says : (c : Bool) (m : ℕ) {r : Reading} {n : ℕ} → r ≡ (if c then Number m else Not) → r ≡ Number n → c ≡ true → n ≡ m
-says true m {n = n} e d h = let x : Number m ≡ Number n = sym e ∙ d in cc
-says false m e d h = false_not_true h
-
-says_not : (c : Bool) (m : ℕ) {r : Reading} {A : Type 0} → r ≡ (if c then Number m else Not) → r ≡ Not → c ≡ true → A
-says_not true m e d h = let z : ◌≡◌ {A = ℕ} 0 1 = cc in absurd (omega (arith, z))
-says_not false m e d h = false_not_true h
-
-module _ {v : List ℕ} {r : Reading} (w : List ℕ) (same_text : v ≡ w) where
-  pub count-read : {n : ℕ} → r ≡ as_count v → r ≡ Number n → digits 1 15 w ≡ true → n ≡ number w
+module _ {v : List ℕ} {o : Option ℕ} {r : ℕ} (w : List ℕ) (same_text : v ≡ w) where
+  pub count-read : o ≡ as_count v → r ≡ unwrap_or o 0 → digits 1 15 w ≡ true → r ≡ number w
   unfolding as_count
-  count-read e d h = says (digits 1 15 w) (number w) (e ∙ ap as_count same_text) d h
+  count-read e f h = let k : as_count w ≡ Some (number w) = rw h refl in f ∙ ap (λ (x : Option ℕ). unwrap_or x 0) (e ∙ ap as_count same_text ∙ k)
 
-  pub count_not : {A : Type 0} → r ≡ as_count v → r ≡ Not → digits 1 15 w ≡ true → A
-  unfolding as_count
-  count_not e d h = says_not (digits 1 15 w) (number w) (e ∙ ap as_count same_text) d h
-
-  pub cents-read : {n : ℕ} → r ≡ in_cents v → r ≡ Number n → money w ≡ true → n ≡ cents w
+  pub cents-read : o ≡ in_cents v → r ≡ unwrap_or o 0 → money w ≡ true → r ≡ cents w
   unfolding in_cents
-  cents-read e d h = says (money w) (cents w) (e ∙ ap in_cents same_text) d h
+  cents-read e f h = let k : in_cents w ≡ Some (cents w) = rw h refl in f ∙ ap (λ (x : Option ℕ). unwrap_or x 0) (e ∙ ap in_cents same_text ∙ k)
 
-  pub cents_not : {A : Type 0} → r ≡ in_cents v → r ≡ Not → money w ≡ true → A
-  unfolding in_cents
-  cents_not e d h = says_not (money w) (cents w) (e ∙ ap in_cents same_text) d h
+pub cents_under : (v : List ℕ) (o : Option ℕ) (r : ℕ) → o ≡ in_cents v → r ≡ unwrap_or o 0 → r < 10 ^ 17
+cents_under v (Some n) r e f = omega (arith, f, (reading_is v n (sym e)).1)
+cents_under v None r e f = omega (arith, f)

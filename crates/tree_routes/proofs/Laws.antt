@@ -2,24 +2,22 @@
 use Prim.Native.Nat.{ℕ, ◌+◌, ◌≤◌, ◌<◌}
 use mathlib.Core.List.{List, [], ◌∷◌}
 use mathlib.Core.Option.{Option, none, some}
-use mathlib.Core.Bool.{true, false, ◌&&◌}
+use mathlib.Core.Bool.{true, false}
 use mathlib.Core.Path.{◌≡◌, refl, sym, ap, ◌∙◌, subst}
 use native.Mathlib.Numerals.{add-one}
 use native.Mathlib.Omega.{arith}
 use lib.ListN.{length, get_or, drop, drop_of_length-le}
 use lib.Seq.{drop-cons}
 use borrow.Author.Tests.{eq-eqb, ne_eqb}
-use Rattle.paper.specs.Bytes.{same, every}
+use Rattle.paper.specs.Bytes.{same}
 use Rattle.paper.specs.Form.{Element, Elements, []ᵉ, ◌∷ᵉ◌}
 use Rattle.paper.specs.Rows.{head_of, name}
 use Rattle.paper.specs.Payments.{listed, children, all_named, all_of, child, follow}
-use Rattle.paper.proofs.Laws.{both_left, both_right, follow_one}
 use Rattle.form_names.specs.Names.{name_number, is_sought}
 use Rattle.tree.specs.Laid.{Laid, LaidAll, laid_text, laid_elements, laid_none, laid_more}
 use Rattle.tree.proofs.Laws.{Cell, named, next_cell, entry_of}
 use Rattle.tree_routes.specs.Finds.{Finds, found_at, found_nothing, Next, no_more, one_more, rows_in, onward}
-use Rattle.tree_routes.specs.declared.Found.{Found}
-use Rattle.tree_routes.specs.declared.Found.TheVariants.{At, Nothing}
+use Rattle.std.specs.Prelude.{Some, None}
 
 -- one element of several, by its name
 module _ (k : ℕ) (t : Element) (ts : Elements) where
@@ -151,15 +149,15 @@ module _ {s tree : List ℕ} {k i stop : ℕ} where
   next_none (no_more e) h = refl
   next_none (one_more b l all) h = absurd (omega arith)
 
-  pub finds_none : (t : Element) → Next s tree k (all_of k t) i stop → stop ≤ i → Finds s tree (child k t) Nothing
+  pub finds_none : (t : Element) → Next s tree k (all_of k t) i stop → stop ≤ i → Finds s tree (child k t) None
   finds_none t n h = rw (child_none k t (next_none n h)) found_nothing
 
-  pub finds_one : (t : Element) → Next s tree k (all_of k t) i stop → i < stop → Finds s tree (child k t) (At i)
+  pub finds_one : (t : Element) → Next s tree k (all_of k t) i stop → i < stop → Finds s tree (child k t) (Some i)
   finds_one t n h =
       let f = next_one n h in
       rw (child_first k t f.first_is) (found_at (record { next = f.one_next; laid = f.one_laid }))
 
--- a route followed from an element that may be absent: no step, one step, and one step before others
+-- a route followed from an element that may be absent, no row, and one row before others
 pub onward_none : (route : List ℕ) → onward route none ≡ none
 unfolding onward
 onward_none route = refl
@@ -168,10 +166,9 @@ pub onward_some : (route : List ℕ) (t : Element) → onward route (some t) ≡
 unfolding onward
 onward_some route t = refl
 
-pub onward_here : (o : Option Element) → onward [] o ≡ o
-unfolding onward follow
-onward_here none = refl
-onward_here (some t) = refl
+pub follow_here : (t : Element) → follow [] t ≡ some t
+unfolding follow
+follow_here t = refl
 
 pub follow_step : (k : ℕ) (ks : List ℕ) (t : Element) → follow (k ∷ ks) t ≡ onward ks (child k t)
 unfolding follow onward
@@ -180,11 +177,6 @@ follow_step k ks t = go (child k t)
     go : (o : Option Element) → ◌≡◌ {A = Option Element} (elim o [ none ↦ none | some u ↦ follow ks u ]) (onward ks o)
     go none = refl
     go (some u) = refl
-
-pub onward_step : (k : ℕ) (ks : List ℕ) (o : Option Element) → onward (k ∷ ks) o ≡ onward ks (onward (k ∷ []) o)
-onward_step k ks none = onward_none (k ∷ ks) ∙ sym (ap (onward ks) (onward_none (k ∷ [])) ∙ onward_none ks)
-onward_step k ks (some t) =
-    onward_some (k ∷ ks) t ∙ (follow_step k ks t ∙ sym (ap (onward ks) (onward_some (k ∷ []) t ∙ follow_one k t)))
 
 -- the rows of a route from a number on
 module _ (route : List ℕ) (j : ℕ) where
@@ -199,32 +191,3 @@ module _ (route : List ℕ) (j : ℕ) where
   pub rows_end : length route ≤ j → rows_in (drop j route) ≡ []
   unfolding rows_in
   rows_end h = rw (drop_of_length-le route h)
-
--- Some rows of a route followed: what stands there was found, and the rest of the route leads on from it.
-pub record Halfway (s tree route : List ℕ) (o : Option Element) (found : Found) (j : ℕ) : Type 0 where
-  pub here : Option Element
-  pub found_here : Finds s tree here found
-  pub leads_on : onward (rows_in route) o ≡ onward (rows_in (drop j route)) here
-  pub rows_ahead : every is_sought (rows_in (drop j route)) ≡ true
-
-module _ {s tree route : List ℕ} {o : Option Element} {found : Found} where
-  pub sets_out : every is_sought (rows_in route) ≡ true → Finds s tree o found → Halfway s tree route o found 0
-  sets_out y f = record { here = o; found_here = f; leads_on = refl; rows_ahead = y }
-
-  pub arrived : {j : ℕ} → rows_in (drop j route) ≡ [] → Halfway s tree route o found j → Finds s tree (onward (rows_in route) o) found
-  arrived e h = rw (h.leads_on, e, onward_here h.here) h.found_here
-
-  pub one_row_on : {next : Found} {j k : ℕ} → j < length route → (get_or route j 0 ≡ 0 → ⊥) → k ≡ get_or route j 0
-      → ((u : Option Element) → is_sought k ≡ true → Finds s tree u found → Finds s tree (onward (k ∷ []) u) next)
-      → Halfway s tree route o found j → Halfway s tree route o next (j + 1)
-  unfolding every
-  one_row_on {j = j} {k = k} b n r f h =
-      let ks = rows_in (drop (j + 1) route) in
-      let e : rows_in (drop j route) ≡ k ∷ ks = rows_go_on route j b n ∙ ap (λ (m : ℕ). m ∷ ks) (sym r) in
-      let y : (is_sought k && every is_sought ks) ≡ true = ap (every is_sought) (sym e) ∙ h.rows_ahead in
-      record {
-        here = onward (k ∷ []) h.here;
-        found_here = f h.here (both_left (is_sought k) (every is_sought ks) y) h.found_here;
-        leads_on = h.leads_on ∙ (ap (λ (l : List ℕ). onward l h.here) e ∙ onward_step k ks h.here);
-        rows_ahead = both_right (is_sought k) (every is_sought ks) y;
-      }

@@ -2,3 +2,4 @@
 pub mod Laws
 pub mod WhatIsFound
 pub mod FirstOfEachName
+pub mod AlongARoute

@@ -1,18 +1,17 @@
 -- Where an element stands in the laid-out tree, found by rows.
-use Rattle.std.specs.Prelude.{ℕ, ◌<◌, List, [], ◌∷◌, true, ◌≡◌, get_or, eqb, if◌then◌else◌}
+use Rattle.std.specs.Prelude.{ℕ, ◌<◌, List, [], ◌∷◌, true, ◌≡◌, get_or, eqb, if◌then◌else◌, Some, None}
+use Rattle.std.specs.Prelude as code
 use Rattle.std.proofs.Math.Option.{Option, none, some}
 use Rattle.paper.specs.Form.{Element, Elements}
 use Rattle.paper.specs.Rows.{name}
 use Rattle.paper.specs.Payments.{listed, all_named, child, follow}
 use Rattle.form_names.specs.Names.{name_number, is_sought}
 use Rattle.tree.specs.Laid.{Laid, LaidAll, LaidAt}
-use Rattle.tree_routes.specs.declared.Found.{Found}
-use Rattle.tree_routes.specs.declared.Found.TheVariants.{At, Nothing}
 
 -- An element that may be absent: where it stands in the tree, or nothing.
-pub data Finds (s tree : List ℕ) : Option Element → Found → Type 0 where
-  found_at : {t : Element} {i : ℕ} → LaidAt s tree i t → Finds s tree (some t) (At i)
-  found_nothing : Finds s tree none Nothing
+pub data Finds (s tree : List ℕ) : Option Element → code.Option ℕ → Type 0 where
+  found_at : {t : Element} {i : ℕ} → LaidAt s tree i t → Finds s tree (some t) (Some i)
+  found_nothing : Finds s tree none None
 
 -- Those named as row k among elements that are laid out up to `stop`: none is left, or the first stands at i, and more elements are laid out after it.
 pub data Next (s tree : List ℕ) (k : ℕ) : List Element → (i stop : ℕ) → Type 0 where
@@ -29,14 +28,10 @@ unfoldable pub onward : (route : List ℕ) → Option Element → Option Element
 onward route none = none
 onward route (some t) = follow route t
 
--- where a child stands, among the first children of each name
-unfoldable pub found_in : List ℕ → ℕ → Found
-found_in children n = if eqb (get_or children n 0) 0 then Nothing else At (get_or children n 0)
-
 -- These are the first children of each name of an element.
-pub record ByName (s tree : List ℕ) (t : Element) (children : List ℕ) : Type 0 where
-  pub finds : (k : ℕ) → is_sought k ≡ true → Finds s tree (child k t) (found_in children (name_number (name k)))
+pub record ByName (s tree : List ℕ) (t : Element) (children : List (code.Option ℕ)) : Type 0 where
+  pub finds : (k : ℕ) → is_sought k ≡ true → Finds s tree (child k t) (get_or children (name_number (name k)) None)
 
 -- These are the first children of each name of whatever element is laid out at i.
-abbrev pub ChildrenOf : (tree : List ℕ) (i : ℕ) (children : List ℕ) → Type 0
+abbrev pub ChildrenOf : (tree : List ℕ) (i : ℕ) (children : List (code.Option ℕ)) → Type 0
 ChildrenOf tree i children = (s : List ℕ) (t : Element) → LaidAt s tree i t → ByName s tree t children

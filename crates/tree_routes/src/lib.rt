@@ -13,17 +13,14 @@ ghost use Rattle.tree_routes.specs.Finds.{Finds, Next, rows_in, onward, ByName, 
 
 use tree::Tree;
 
-// Where an element stands that may be absent.
-#[derive(Clone, Copy)]
-pub enum Found {
-    At(usize),
-    Nothing,
-}
+// The first child of each name, by the name's number.
+// No type carries `ByName` or `LaidAt`, which contracts have as conditions: these functions answer for any numbers that are lent (docs/PROMISES.md).
+// An array by number and no map: no heap.
+pub type Children = [Option<u16>; 59];
 
-// The first child of each name, by the name's number; 0 where there is none.
-pub type Children = [u16; 59];
-
-// Of the elements from i up to `stop`, the first whose name has this number; `stop` where there is none.
+// Of the elements from i up to `stop`, the first whose name has this number; `stop`, and no None, where there is none, since that is where a
+// walk over them ends.
+// Stays a `while`, as the walk of `by_name`: where the next element begins, the tree says.
 fn next_named(tree: &Tree, i: usize, stop: usize, name: usize) -> usize
     ensures { (i ≤ result) × ((s : List ℕ) (row : ℕ) (ts : Elements) → is_sought row ≡ true → name ≡ name_number (name_of_row row) → LaidAll s tree.now ts i stop
         → Next s tree.now row (all_named row (listed ts)) result stop) }
@@ -68,56 +65,37 @@ pub fn next_in(tree: &Tree, i: usize, stop: usize, row: usize) -> usize
 }
 
 // The first child of element i that is named as this row.
-pub fn child(tree: &Tree, i: usize, row: usize) -> Found
+pub fn child(tree: &Tree, i: usize, row: usize) -> Option<usize>
     ensures { (s : List ℕ) (t : Element) → is_sought row ≡ true → LaidAt s tree.now i t → Finds s tree.now (child row t) result }
 {
     let at = first_in(tree, i, row);
     let stop = tree::cell(tree, i, 4);
     if stop <= at {
-        return Found::Nothing;
+        return None;
     }
-    Found::At(at)
-}
-
-// The same of an element that may be absent.
-fn child_under(tree: &Tree, found: Found, row: usize) -> Found
-    ensures { (s : List ℕ) (o : Option Element) → is_sought row ≡ true → Finds s tree.now o found
-        → Finds s tree.now (onward (row ∷ []) o) result }
-{
-    match found {
-        Found::Nothing => Found::Nothing,
-        Found::At(i) => child(tree, i, row),
-    }
+    Some(at)
 }
 
 // What stands at the end of a route of rows, which ends before its first 0, from an element that may be absent.
-pub fn follow(tree: &Tree, from: Found, route: &[u16]) -> Found
+pub fn follow(tree: &Tree, from: Option<usize>, route: &[u16]) -> Option<usize>
     ensures { (s : List ℕ) (o : Option Element) → every is_sought (rows_in route.now) ≡ true → Finds s tree.now o from
         → Finds s tree.now (onward (rows_in route.now) o) result }
 {
-    let mut found = from;
-    let mut k = 0;
-    while k < route.len() {
-        if route[k] == 0 {
-            return found;
+    let mut reached = from?;
+    for &row in route {
+        if row == 0 {
+            return Some(reached);
         }
-        found = child_under(tree, found, tree::wide(route[k]));
-        k += 1;
+        reached = child(tree, reached, usize::from(row))?;
     }
-    found
-}
-
-fn narrow(x: usize) -> u16
-    ensures { x < 65536 → result ≡ x }
-{
-    (x % 65536) as u16
+    Some(reached)
 }
 
 // The first child of each name, in one walk over the children of element i.
 pub fn by_name(tree: &Tree, i: usize) -> Children
     ensures { ChildrenOf tree.now i result }
 {
-    let mut firsts = [0u16; 59];
+    let mut firsts = [None; 59];
     if tree::ELEMENTS <= i {
         return firsts;
     }
@@ -126,8 +104,8 @@ pub fn by_name(tree: &Tree, i: usize) -> Children
     while at < stop {
         let name = tree::cell(tree, at, 1);
         if name < 59 {
-            if firsts[name] == 0 {
-                firsts[name] = narrow(at);
+            if firsts[name].is_none() {
+                firsts[name] = u16::try_from(at).ok();
             }
         }
         let next = tree::cell(tree, at, 4);
@@ -150,26 +128,20 @@ pub fn by_name_again(tree: &Tree, i: usize, known: usize, children: Children) ->
 }
 
 // Of the first children of an element, that which is named as this row.
-pub fn first(children: &Children, row: usize) -> Found
+pub fn first(children: &Children, row: usize) -> Option<usize>
     ensures { (s tree : List ℕ) (t : Element) → is_sought row ≡ true → ByName s tree t children.now → Finds s tree (child row t) result }
 {
     let name = tree::name_of(row);
     if 59 <= name {
-        return Found::Nothing;
+        return None;
     }
-    let i = tree::wide(children[name]);
-    if i == 0 {
-        return Found::Nothing;
-    }
-    Found::At(i)
+    children[name].map(usize::from)
 }
 
 // The first of two that stands there.
-pub fn either(one: Found, other: Found) -> Found
+// Stays beside `or`: it is promised by name (docs/PROMISES.md).
+pub fn either(one: Option<usize>, other: Option<usize>) -> Option<usize>
     ensures { (s tree : List ℕ) (o u : Option Element) → Finds s tree o one → Finds s tree u other → Finds s tree (either_of o u) result }
 {
-    match one {
-        Found::At(i) => Found::At(i),
-        Found::Nothing => other,
-    }
+    one.or(other)
 }

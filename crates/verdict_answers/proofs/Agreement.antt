@@ -1,5 +1,5 @@
 -- An answer is known by the rules' numbers for it: two answers with the same numbers are the same.
-use Rattle.std.specs.Prelude.{if◌then◌else◌}
+use Rattle.std.specs.Prelude.{if◌then◌else◌, Result, Ok, Err}
 use Prim.Native.Nat.{ℕ}
 use mathlib.Core.Option.{Option, none, some}
 use mathlib.Core.Path.{◌≡◌, refl, sym, ap, ◌∙◌}
@@ -10,12 +10,9 @@ use Rattle.paper.specs.Regrouping.{RegroupingAnswer, message_refused, answered}
 use Rattle.paper.specs.Answers.{numbered, refusal_of, refusal_found, verdict_says, regrouping_says}
 use Rattle.paper.specs.declared.Fault.{Fault}
 use Rattle.paper.specs.declared.Fault.TheVariants.{TableTooShort, MessageTooLong, NotOfTheForm, NotAllowedThere, Missing, TooMany, EmptyOrTooLong, CharacterNotInTheSet, ValueNotAllowed, Withdrawn, InPaymentAndBlock, InNeither, BlockIdRepeated, CountDiffers, SumDiffers}
-use Rattle.paper.specs.declared.Finding.{Finding}
-use Rattle.paper.specs.declared.Finding.TheVariants as finding
-use Rattle.paper.specs.declared.Verdict.{Verdict}
-use Rattle.paper.specs.declared.Verdict.TheVariants.{Accepted, Refused}
-use Rattle.paper.specs.declared.Regrouping.{Regrouping}
-use Rattle.paper.specs.declared.Regrouping.TheVariants as regrouping
+use Rattle.paper.specs.declared.Accepted.{Accepted}
+use Rattle.paper.specs.declared.NotRegrouped.{NotRegrouped}
+use Rattle.paper.specs.declared.NotRegrouped.TheVariants as regrouping
 use Rattle.verdict_answers.specs.Numbers.{Numbers, as_answer, as_regrouping_answer}
 use Rattle.verdict_answers.specs.declared.Refusal.{Refusal as OfFault}
 use Rattle.verdict_answers.specs.declared.OfMessage.{OfMessage}
@@ -57,21 +54,22 @@ fault_again (BlockIdRepeated offset) = refl
 fault_again (CountDiffers element offset) = refl
 fault_again (SumDiffers element offset) = refl
 
-finding_by : Option Refusal → Finding
-finding_by none = finding.Nothing
-finding_by (some r) = finding.Refused (fault_by r.number r.element r.offset)
+finding_by : Option Refusal → Result Unit Fault
+finding_by none = Ok tt
+finding_by (some r) = Err (fault_by r.number r.element r.offset)
 
-finding_again : (f : Finding) → finding_by (refusal_found f) ≡ f
+finding_again : (f : Result Unit Fault) → finding_by (refusal_found f) ≡ f
 unfolding finding_by refusal_found
-finding_again finding.Nothing = refl
-finding_again (finding.Refused fault) = ap finding.Refused (fault_again fault)
+finding_again (Ok tt) = refl
+finding_again (Err fault) = ap Err (fault_again fault)
 
-pub one_finding : (f g : Finding) → refusal_found f ≡ refusal_found g → f ≡ g
+pub one_finding : (f g : Result Unit Fault) → refusal_found f ≡ refusal_found g → f ≡ g
 one_finding f g e = sym (finding_again f) ∙ ap finding_by e ∙ finding_again g
 
-verdict_by : MessageAnswer → Verdict
+verdict_by : MessageAnswer → Result Accepted Fault
 verdict_by a =
-    if eqb a.number 0 then Accepted a.blocks a.payments a.cents else Refused (fault_by a.number a.element a.offset)
+    if eqb a.number 0 then Ok (record { blocks = a.blocks; payments = a.payments; cents = a.cents }) else
+    Err (fault_by a.number a.element a.offset)
 
 -- no refusal has the number 0
 pub no_zero : (f : Fault) → eqb (refusal_of f).number 0 ≡ false
@@ -92,38 +90,38 @@ no_zero (BlockIdRepeated o) = refl
 no_zero (CountDiffers e o) = refl
 no_zero (SumDiffers e o) = refl
 
-verdict_again : (v : Verdict) → verdict_by (verdict_says v) ≡ v
+verdict_again : (v : Result Accepted Fault) → verdict_by (verdict_says v) ≡ v
 unfolding verdict_by verdict_says refused accepted
-verdict_again (Accepted blocks payments cents) = refl
-verdict_again (Refused fault) = rw (no_zero fault) (ap Refused (fault_again fault))
+verdict_again (Ok of) = refl
+verdict_again (Err fault) = rw (no_zero fault) (ap Err (fault_again fault))
 
-pub one_verdict : (v w : Verdict) → verdict_says v ≡ verdict_says w → v ≡ w
+pub one_verdict : (v w : Result Accepted Fault) → verdict_says v ≡ verdict_says w → v ≡ w
 one_verdict v w e = sym (verdict_again v) ∙ ap verdict_by e ∙ verdict_again w
 
-regrouping_by : RegroupingAnswer → Regrouping
+regrouping_by : RegroupingAnswer → Result Unit NotRegrouped
 regrouping_by a =
-    if eqb a.whose 1 then regrouping.FirstRefused (fault_by a.number a.element a.offset) else
-    if eqb a.whose 2 then regrouping.SecondRefused (fault_by a.number a.element a.offset) else
-    if eqb a.number 0 then regrouping.Accepted else
-    if eqb a.number 15 then regrouping.NumbersOfPaymentsDiffer else
-    if eqb a.number 16 then regrouping.ListNotOfTheForm else
-    if eqb a.number 17 then regrouping.CountNotTheNumberOfPayments else
-    if eqb a.number 18 then regrouping.OrdinalTooLarge a.k else
-    if eqb a.number 19 then regrouping.NamedBefore a.k else regrouping.FieldsDiffer a.k a.field
+    if eqb a.whose 1 then Err (regrouping.FirstRefused (fault_by a.number a.element a.offset)) else
+    if eqb a.whose 2 then Err (regrouping.SecondRefused (fault_by a.number a.element a.offset)) else
+    if eqb a.number 0 then Ok tt else
+    if eqb a.number 15 then Err regrouping.NumbersOfPaymentsDiffer else
+    if eqb a.number 16 then Err regrouping.ListNotOfTheForm else
+    if eqb a.number 17 then Err regrouping.CountNotTheNumberOfPayments else
+    if eqb a.number 18 then Err (regrouping.OrdinalTooLarge a.k) else
+    if eqb a.number 19 then Err (regrouping.NamedBefore a.k) else Err (regrouping.FieldsDiffer a.k a.field)
 
-regrouping_again : (r : Regrouping) → regrouping_by (regrouping_says r) ≡ r
+regrouping_again : (r : Result Unit NotRegrouped) → regrouping_by (regrouping_says r) ≡ r
 unfolding regrouping_by regrouping_says message_refused answered
-regrouping_again regrouping.Accepted = refl
-regrouping_again (regrouping.FirstRefused fault) = ap regrouping.FirstRefused (fault_again fault)
-regrouping_again (regrouping.SecondRefused fault) = ap regrouping.SecondRefused (fault_again fault)
-regrouping_again regrouping.NumbersOfPaymentsDiffer = refl
-regrouping_again regrouping.ListNotOfTheForm = refl
-regrouping_again regrouping.CountNotTheNumberOfPayments = refl
-regrouping_again (regrouping.OrdinalTooLarge k) = refl
-regrouping_again (regrouping.NamedBefore k) = refl
-regrouping_again (regrouping.FieldsDiffer k field) = refl
+regrouping_again (Ok tt) = refl
+regrouping_again (Err (regrouping.FirstRefused fault)) = ap (λ f. Err (regrouping.FirstRefused f)) (fault_again fault)
+regrouping_again (Err (regrouping.SecondRefused fault)) = ap (λ f. Err (regrouping.SecondRefused f)) (fault_again fault)
+regrouping_again (Err regrouping.NumbersOfPaymentsDiffer) = refl
+regrouping_again (Err regrouping.ListNotOfTheForm) = refl
+regrouping_again (Err regrouping.CountNotTheNumberOfPayments) = refl
+regrouping_again (Err (regrouping.OrdinalTooLarge k)) = refl
+regrouping_again (Err (regrouping.NamedBefore k)) = refl
+regrouping_again (Err (regrouping.FieldsDiffer k field)) = refl
 
-pub one_regrouping : (r q : Regrouping) → regrouping_says r ≡ regrouping_says q → r ≡ q
+pub one_regrouping : (r q : Result Unit NotRegrouped) → regrouping_says r ≡ regrouping_says q → r ≡ q
 one_regrouping r q e = sym (regrouping_again r) ∙ ap regrouping_by e ∙ regrouping_again q
 
 -- a refusal is known by its three numbers

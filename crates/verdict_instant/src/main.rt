@@ -4,14 +4,14 @@
 use paper::Profile;
 use std::io;
 
+// A main for each of two programs, which differ in this profile: what they do is `on_input`'s.
 fn main(rt: HostRuntime) -> io::Result<()> {
     let own = Profile {
         instant: true,
         archived: false,
     };
-    let asked = run_words::asked(&rt, &rt.stderr(), own, false)?;
-    if asked.known {
-        run_verdict::on_input(&rt, asked.profile)?;
+    if let Some(profile) = run_words::asked(&rt, &rt.stderr(), own, false)? {
+        run_verdict::on_input(&rt, profile)?;
     }
     Ok(())
 }

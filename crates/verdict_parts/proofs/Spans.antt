@@ -1,10 +1,11 @@
 -- The part where a field of a payment stands, handed back.
-use Prim.Native.Nat.{ℕ, zero, suc, ◌+◌, ◌-◌, ◌≤◌, ◌<◌}
+use Rattle.std.specs.Prelude.{Option}
+use Prim.Native.Nat.{ℕ, zero, suc, ◌+◌, ◌≤◌, ◌<◌}
 use native.Mathlib.Omega.{arith}
 use mathlib.Core.List.{List, [], ◌∷◌}
-use mathlib.Core.Path.{◌≡◌, refl, sym, ◌∙◌, ap, subst}
+use mathlib.Core.Path.{◌≡◌, refl, sym, ◌∙◌, subst}
 use denote.Ref.{Bor}
-use lib.ListN.{length, take, drop}
+use lib.ListN.{length}
 use Rattle.paper.specs.Form.{Element}
 use Rattle.paper.specs.Payments.{Payment, payments}
 use Rattle.paper.specs.Table.{Part, part_of}
@@ -16,9 +17,6 @@ use Rattle.rule_limits.proofs.First.{payment_there}
 use Rattle.verdict_table.specs.Rows.{SpanIs}
 use Rattle.verdict_table.specs.declared.Span.{Span}
 use Rattle.verdict_parts.specs.Parts.{HandsBack}
-
-pub so_many : (s : List ℕ) (start size : ℕ) → take (start + size - start) (drop start s) ≡ take size (drop start s)
-so_many s start size = let e : start + size - start ≡ size = omega arith in ap (λ (n : ℕ). take n (drop start s)) e
 
 -- the k-th payment, where it stands, and its fields
 pub record Kth (s tree order : List ℕ) (k : ℕ) (ps : List Payment) : Type 0 where
@@ -54,7 +52,7 @@ span_part {message} {handed} {r} {part} is h =
       at_its_place = b.at_its_place ∙ rw is.start_is;
     }
 
-pub found_part : (k field : ℕ) {message handed : Bor (List ℕ)} {tree order own block : List ℕ} {root : Element} {there : PaymentAt} {r : Span}
+pub found_part : (k field : ℕ) {message handed : Bor (List ℕ)} {tree order : List ℕ} {own block : List (Option ℕ)} {root : Element} {there : PaymentAt} {r : Span}
     → Ordered message.now tree order root → k < length (payments root) → there ≡ payment_in order k
     → ChildrenOf tree there.own own → ChildrenOf tree there.block block
     → ((s : List ℕ) (p : Payment) → ByName s tree p.own own → ByName s tree p.block block → SpanIs s (part_of (field_element field p)) r)

@@ -10,21 +10,22 @@ ghost use Rattle.paper.specs.Fields.{field_of};
 
 use rule_limits::Order;
 use tree::Tree;
+use verdict_table::Span;
 
-// So many bytes of the message from a place on; the empty part at 0 where it has not so many.
-fn part(message: &[u8], start: usize, size: usize) -> &[u8]
-    ensures { start + size ≤ length message.now → HandsBack message.entry result (record { start = start; size = size }) }
+// The bytes of a span of the message; the empty part at 0 where the message ends before it. (`tree_leaves` has a part too, of which
+// nobody needs to know where it lies.)
+fn part(message: &[u8], of: Span) -> &[u8]
+    ensures { of.start + of.size ≤ length message.now → HandsBack message.entry result (record { start = of.start; size = of.size }) }
 {
-    if message.len() < start {
+    let end = of.start.saturating_add(of.size);
+    if message.len() < end {
         return &message[0..0];
     }
-    if message.len() - start < size {
-        return &message[0..0];
-    }
-    let end = start + size;
-    &message[start..end]
+    &message[of.start..end]
 }
 
+// Message, tree and order stay parameters: one message is at work here, so nothing can be taken for another's, and in a struct
+// of what is lent each contract would say `message.entry.tree.now` for `tree.now`.
 // The text of a field of payment k, whose element and block stand in the order; the empty part at 0 where there is no such element.
 pub fn field_in<'a>(
     message: &'a [u8],
@@ -44,5 +45,5 @@ pub fn field_in<'a>(
     let block = tree_routes::by_name(tree, payment.block);
     let routes = tree_fields::routes();
     let span = verdict_table::field_span(tree, &routes, &own, &block, field);
-    part(message, span.start, span.size)
+    part(message, span)
 }

@@ -1,5 +1,6 @@
 -- The promises of the reader determine its answers; and demands 1 and 2 as the promise of `verdict` has them, in whichever profile is named (crates/paper_acceptance/proofs/Proper.antt,
 -- `named_proper`).
+use Rattle.std.specs.Prelude.{Result, Ok, Err}
 use Prim.Native.Nat.{ℕ, ◌*◌, ◌≤◌}
 use mathlib.Core.List.{List, Memᴰ}
 use mathlib.Core.Path.{◌≡◌, refl, sym, ap, ◌∙◌, subst}
@@ -19,8 +20,7 @@ use Rattle.paper.specs.Regrouping.{At}
 use Rattle.paper.specs.Answers.{verdict_says, refusal_of, numbered}
 use Rattle.paper.specs.declared.Fault.{Fault}
 use Rattle.paper.specs.declared.Fault.TheVariants.{NotOfTheForm}
-use Rattle.paper.specs.declared.Verdict.{Verdict}
-use Rattle.paper.specs.declared.Verdict.TheVariants as the
+use Rattle.paper.specs.declared.Accepted.{Accepted as Answer}
 use Rattle.verdict_table.proofs.Numbers.{payment_begins, later_stay}
 use Rattle.paper_acceptance.proofs.Proper.{Proper}
 use Rattle.paper_acceptance.proofs.Present.{no_other_absent, FieldsThere, fields_there}
@@ -32,10 +32,10 @@ use Rattle.verdict_answers.proofs.Agreement.{one_verdict, no_zero}
 use Rattle.verdict_reader.specs.Promises.{VerdictPromise, FieldPromise}
 
 -- two answers that keep the promise of `verdict`, and what they leave in the table, are the same
-pub answers_agree : {profile : Profile} {message before after other : List ℕ} (v w : Verdict) → VerdictPromise profile message before v after → VerdictPromise profile message before w other → v ≡ w
+pub answers_agree : {profile : Profile} {message before after other : List ℕ} (v w : Result Answer Fault) → VerdictPromise profile message before v after → VerdictPromise profile message before w other → v ≡ w
 answers_agree v w a b = one_verdict v w (a.answer_is ∙ sym b.answer_is)
 
-pub tables_agree : {profile : Profile} {message before after other : List ℕ} {v w : Verdict} → VerdictPromise profile message before v after → VerdictPromise profile message before w other → after ≡ other
+pub tables_agree : {profile : Profile} {message before after other : List ℕ} {v w : Result Answer Fault} → VerdictPromise profile message before v after → VerdictPromise profile message before w other → after ≡ other
 tables_agree a b = a.table_is ∙ sym b.table_is
 
 -- two parts that keep the promise of `field` have the same bytes and lie at the same place
@@ -43,20 +43,20 @@ pub fields_agree : (profile : Profile) {message a b : Bor (List ℕ)} (payment f
     → (a.now ≡ b.now) × (a.ref_ptr.0 ≡ b.ref_ptr.0) × (a.ref_ptr.1 ≡ b.ref_ptr.1)
 fields_agree profile payment field h g = (h.bytes_are ∙ sym g.bytes_are, h.in_the_message ∙ sym g.in_the_message, h.at_its_place ∙ sym g.at_its_place)
 
-pub data IsAccepted : Verdict → Type 0 where
-  is_accepted : {blocks payments cents : ℕ} → IsAccepted (the.Accepted blocks payments cents)
+pub data IsAccepted : Result Answer Fault → Type 0 where
+  is_accepted : {of : Answer} → IsAccepted (Ok of)
 
 -- Number 0 is acceptance.
-accepted_zero : {v : Verdict} → IsAccepted v → (verdict_says v).number ≡ 0
+accepted_zero : {v : Result Answer Fault} → IsAccepted v → (verdict_says v).number ≡ 0
 unfolding verdict_says accepted
 accepted_zero is_accepted = refl
 
-zero_accepted : (v : Verdict) → (verdict_says v).number ≡ 0 → IsAccepted v
+zero_accepted : (v : Result Answer Fault) → (verdict_says v).number ≡ 0 → IsAccepted v
 unfolding verdict_says refused
-zero_accepted (the.Accepted blocks payments cents) e = is_accepted
-zero_accepted (the.Refused f) e = absurd (eqb-false (refusal_of f).number 0 (no_zero f) e)
+zero_accepted (Ok of) e = is_accepted
+zero_accepted (Err f) e = absurd (eqb-false (refusal_of f).number 0 (no_zero f) e)
 
-module _ {profile : Profile} (proper : Proper profile) {s before after : List ℕ} {v : Verdict} (a : VerdictPromise profile s before v after) where
+module _ {profile : Profile} (proper : Proper profile) {s before after : List ℕ} {v : Result Answer Fault} (a : VerdictPromise profile s before v after) where
   number_is : (verdict_says v).number ≡ (verdict profile (length before) s).number
   number_is = ap (λ (m : MessageAnswer). m.number) a.answer_is
 
@@ -75,14 +75,14 @@ module _ {profile : Profile} (proper : Proper profile) {s before after : List �
       )
 
   -- Refused with 2 at k exactly when the table is long enough, the message is not too long and k is its first impossible byte.
-  pub form_refused : (k : ℕ) → (v ≡ the.Refused (NotOfTheForm k)) ↔ (least_table ≤ length before) × (length s ≤ largest_message) × FirstImpossible s k
+  pub form_refused : (k : ℕ) → (v ≡ Err (NotOfTheForm k)) ↔ (least_table ≤ length before) × (length s ≤ largest_message) × FirstImpossible s k
   unfolding verdict_says refusal_of numbered
   form_refused k =
       let z = the_order.form_refused profile proper (length before) s k in
-      ((λ e. z.0 (sym a.answer_is ∙ ap verdict_says e)), (λ h. one_verdict v (the.Refused (NotOfTheForm k)) (a.answer_is ∙ z.1 h)))
+      ((λ e. z.0 (sym a.answer_is ∙ ap verdict_says e)), (λ h. one_verdict v (Err (NotOfTheForm k)) (a.answer_is ∙ z.1 h)))
 
 -- Demand 1: after a refusal the table keeps its old numbers.
-pub refused_keeps : {profile : Profile} {s before after : List ℕ} {f : Fault} → VerdictPromise profile s before (the.Refused f) after → after ≡ before
+pub refused_keeps : {profile : Profile} {s before after : List ℕ} {f : Fault} → VerdictPromise profile s before (Err f) after → after ≡ before
 unfolding verdict answer_to verdict_says refused accepted table_after over written
 refused_keeps {profile} {s} {before} {after} {f} a = go (outcome profile (length before) s) a.answer_is a.table_is
   where
@@ -105,13 +105,13 @@ pub record Filled (profile : Profile) (s before after : List ℕ) (b p c : ℕ) 
   pub pairs_exactly : All PairsExactly (payments root)
   pub fields : All FieldsThere (payments root)
 
-pub accepted_fills : {profile : Profile} → Proper profile → {s before after : List ℕ} {b p c : ℕ} → VerdictPromise profile s before (the.Accepted b p c) after → Filled profile s before after b p c
+pub accepted_fills : {profile : Profile} → Proper profile → {s before after : List ℕ} {of : Answer} → VerdictPromise profile s before (Ok of) after → Filled profile s before after of.blocks of.payments of.cents
 unfolding verdict verdict_says answer_to accepted
-accepted_fills {profile} proper {s} {before} {after} {b} {p} {c} a =
+accepted_fills {profile} proper {s} {before} {after} {of} a =
     let h = (accepted_exactly proper a).0 is_accepted in
     let r = (accepts_with_table profile proper (length before) s h.0).1 h.1 in
     let t = (accepted_with_table profile proper (length before) s r.0).0 r.1 in
-    let e : accepted b p c ≡ answer_to (accepted_with r.0) = a.answer_is ∙ ap answer_to r.1 in
+    let e : accepted of.blocks of.payments of.cents ≡ answer_to (accepted_with r.0) = a.answer_is ∙ ap answer_to r.1 in
     let filled : after ≡ table_after (accepted_with r.0) before = a.table_is ∙ ap (λ (o : Outcome). table_after o before) r.1 in
     record {
       root = r.0;

@@ -1,12 +1,13 @@
 -- The table is filled a payment at a time: the numbers of those before, and then what was there.
-use Prim.Native.Nat.{ℕ, ◌+◌, ◌*◌, ◌≤◌, ◌<◌}
+use Prim.Native.Nat.{ℕ, ◌+◌, ◌*◌, ◌-◌, ◌≤◌, ◌<◌}
 use native.Mathlib.Omega.{arith}
 use mathlib.Core.List.{List, [], ◌∷◌, ◌++◌, append_assoc, append-nil}
 use mathlib.Core.Path.{◌≡◌, refl, sym, ap, ◌∙◌, subst}
 use lib.ListN.{length, take, drop, length-append}
-use lib.Seq.{paste, take_at, drop-append-add, drop-drop, take_all}
+use borrow.Rule.Slice.PartMut.{put_mid}
+use lib.Seq.{take_at, drop_at, drop-drop}
 use Rattle.paper.proofs.Laws.{each_more}
-use Rattle.verdict_table.proofs.Numbers.{numbers_length, all_numbers_length}
+use Rattle.verdict_table.proofs.Numbers.{all_numbers_length}
 use Rattle.paper.specs.Sizes.{numbers_per_payment}
 use Rattle.paper.specs.Bytes.{each}
 use Rattle.paper.specs.Form.{Element}
@@ -18,14 +19,15 @@ use Rattle.rule_limits.specs.Ordered.{IsPayment, PaymentsAt, payment_in, Ordered
 use Rattle.rule_limits.proofs.First.{first_payment, no_payment_left, payment_there, one_fewer}
 use Rattle.verdict_table.specs.Rows.{Fitting}
 
--- a row put behind the numbers so far
-pub one_row : (done row old : List ℕ) (n : ℕ) → length done ≡ n → length row ≡ numbers_per_payment
-    → paste (done ++ drop n old) n row numbers_per_payment ≡ (done ++ row) ++ drop (n + numbers_per_payment) old
-one_row done row old n e f =
-    let a : take n (done ++ drop n old) ≡ done = take_at done (drop n old) n e in
-    let b : drop (n + numbers_per_payment) (done ++ drop n old) ≡ drop (n + numbers_per_payment) old =
-    ap (λ (m : ℕ). drop (m + numbers_per_payment) (done ++ drop n old)) (sym e) ∙ drop-append-add done (drop n old) numbers_per_payment ∙ drop-drop numbers_per_payment n old in
-    rw (a, b, take_all numbers_per_payment row (omega (arith, f)))
+-- a row written behind those so far, over what was there
+pub one_row : (done row old : List ℕ) (n size : ℕ) {table : List ℕ} → length done ≡ n → table ≡ done ++ drop n old
+    → put_mid n (n + size - n) table row ≡ (done ++ row) ++ drop (n + size) old
+one_row done row old n size {table} e is =
+    let so_many : n + size - n ≡ size = omega arith in
+    let a : take n table ≡ done = ap (take n) is ∙ take_at done (drop n old) n e in
+    let b : drop (n + size - n) (drop n table) ≡ drop (n + size) old =
+    rw so_many (ap (drop size) (ap (drop n) is ∙ drop_at done (drop n old) n e) ∙ drop-drop size n old) in
+    rw (a, b) (sym (append_assoc done row (drop (n + size) old)))
 
 -- Filled up to payment k.
 pub record Filled (s tree order old : List ℕ) (root : Element) (many k : ℕ) (table : List ℕ) : Type 0 where
@@ -54,15 +56,15 @@ module _ {s tree order old : List ℕ} {root : Element} {many : ℕ} where
         let all_done : payments root ≡ f.done = f.split ∙ (ap (λ (ps : List Payment). f.done ++ ps) none_left ∙ append-nil f.done) in
         rw (all_done, f.at_done) f.holds
 
-    -- one more payment, whose numbers were put in their place
-    pub one_filled : {there : PaymentAt} {row after : List ℕ} → k < many → there ≡ payment_in order k
-        → ((p : Payment) → IsPayment s tree there p → Fitting p → row ≡ numbers_of p) → after ≡ paste table (numbers_per_payment * k) row numbers_per_payment
-        → Filled s tree order old root many (k + 1) after
+    -- one more payment, whose numbers were written in their place
+    pub one_filled : {there : PaymentAt} {row written : List ℕ} → k < many → there ≡ payment_in order k
+        → ((p : Payment) → IsPayment s tree there p → Fitting p → row ≡ numbers_of p) → written ≡ row
+        → Filled s tree order old root many (k + 1) (put_mid (numbers_per_payment * k) (numbers_per_payment * k + numbers_per_payment - numbers_per_payment * k) table written)
     one_filled {row = row} l o r e =
         let first = first_payment f.stand f.as_many l in
         let p = first.one in
         let fits = rest_fits (subst (All Fitting) first.first_is f.each_fits) in
-        let is : row ≡ numbers_of p = r p (payment_there o first.one_there) fits.0 in
+        let is = e ∙ r p (payment_there o first.one_there) fits.0 in
         let next_row : numbers_per_payment * k + numbers_per_payment ≡ numbers_per_payment * (k + 1) = omega arith in
         record {
           done = f.done ++ (p ∷ []);
@@ -73,8 +75,9 @@ module _ {s tree order old : List ℕ} {root : Element} {many : ℕ} where
           each_fits = fits.1;
           as_many = one_fewer k f.as_many first.first_is;
           holds =
-              e ∙ rw (f.holds, is)
-              (one_row (each numbers_of f.done) (numbers_of p) old (numbers_per_payment * k) (all_numbers_length f.done ∙ ap (λ (m : ℕ). numbers_per_payment * m) f.at_done) (numbers_length p) ∙
+              rw is
+              (one_row (each numbers_of f.done) (numbers_of p) old (numbers_per_payment * k) numbers_per_payment
+              (all_numbers_length f.done ∙ ap (λ (m : ℕ). numbers_per_payment * m) f.at_done) f.holds ∙
               ap (λ (x : List ℕ). x ++ drop (numbers_per_payment * k + numbers_per_payment) old) (sym (each_more numbers_of f.done p)) ∙
               ap (λ (m : ℕ). each numbers_of (f.done ++ (p ∷ [])) ++ drop m old) next_row);
         }

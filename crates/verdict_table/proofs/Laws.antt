@@ -1,14 +1,13 @@
 -- Spans and rows of the table.
-use Prim.Native.Nat.{ℕ, ◌+◌, ◌/◌, ◌%◌, ◌-◌, ◌≤◌, ◌<◌}
+use Rattle.std.specs.Prelude.{Some, None}
+use Rattle.std.specs.Prelude as code
+use Prim.Native.Nat.{ℕ, ◌/◌, ◌%◌, ◌-◌, ◌≤◌, ◌<◌}
 use native.Mathlib.Nat.{mod-eq_of_lt}
 use native.Mathlib.Omega.{arith}
-use native.Mathlib.Numerals.{add-one}
 use mathlib.Core.List.{List, [], ◌∷◌}
 use mathlib.Core.Option.{Option}
 use mathlib.Core.Path.{◌≡◌, refl, sym, ap, ◌∙◌}
-use lib.ListN.{length, get_or, set}
-use lib.Seq.{paste, paste-suc, length-paste}
-use Rattle.paper.specs.Sizes.{numbers_per_payment}
+use lib.ListN.{length}
 use Rattle.paper.specs.Form.{Element}
 use Rattle.paper.specs.Bytes.{each}
 use Rattle.paper.specs.Rows.{head_of}
@@ -17,8 +16,6 @@ use Rattle.paper.specs.Table.{Part, part_of, start_and_length, first_pairs, last
 use Rattle.tree.specs.Laid.{LaidAt}
 use Rattle.tree.proofs.Laws.{Cell, at_cell, start_cell, close_cell, entry_at}
 use Rattle.tree_routes.specs.Finds.{Finds}
-use Rattle.tree_routes.specs.declared.Found.{Found}
-use Rattle.tree_routes.specs.declared.Found.TheVariants.{At, Nothing}
 use Rattle.tree_routes.proofs.WhatIsFound.{found_none, found_some, own_row, block_row}
 use Rattle.verdict_table.specs.Rows.{SpanIs, SpansOf, row_of, Fitting}
 use Rattle.verdict_table.specs.declared.Span.{Span}
@@ -31,18 +28,12 @@ spans_agree a b h k = same_fields (h.start_is ∙ sym k.start_is) (h.size_is ∙
     same_fields : {m n p q : ℕ} → m ≡ n → p ≡ q → ◌≡◌ {A = Span} (record { start = m; size = p }) (record { start = n; size = q })
     same_fields x y = rw (x, y)
 
-module _ {s tree : List ℕ} {o : Option Element} {f : Found} (h : Finds s tree o f) where
-  pub nothing : f ≡ Nothing → SpanIs s (part_of o) (record { start = 0; size = 0 })
+module _ {s tree : List ℕ} {o : Option Element} {f : code.Option ℕ} (h : Finds s tree o f) where
+  pub nothing : f ≡ None → SpanIs s (part_of o) (record { start = 0; size = 0 })
   unfolding part_of
   nothing e = rw (found_none h e) (record { start_is = refl; size_is = refl; inside = omega arith })
 
-  module _ {i start close : ℕ} (e : f ≡ At i) (a : Cell tree i 2 start) (b : Cell tree i 3 close) where
-    pub never_ends_first : {A : Type 0} → close < start → A
-    never_ends_first l =
-        let t = found_some h e in
-        let r = entry_at t.laid in
-        absurd (omega (arith, start_cell r a, close_cell r b, r.written.start_first))
-
+  module _ {i start close : ℕ} (e : f ≡ Some i) (a : Cell tree i 2 start) (b : Cell tree i 3 close) where
     pub held : SpanIs s (part_of o) (record { start = start; size = close - start })
     unfolding part_of
     held =
@@ -58,20 +49,8 @@ module _ {s tree : List ℕ} {o : Option Element} {f : Found} (h : Finds s tree 
           inside = omega (arith, p, q, w.start_first, w.close_inside);
         })
 
--- one more number of a row
-pub pasted : (d : List ℕ) (at : ℕ) (numbers : List ℕ) (k : ℕ) {table : List ℕ} → table ≡ paste d at numbers k → at + k < length d → k < length numbers
-    → set table (at + k) (get_or numbers k 0) ≡ paste d at numbers (k + 1)
-pasted d at numbers k e l m = rw (e, add-one) (paste-suc d at numbers k 0 l m)
-
-pub pasted_length : (d : List ℕ) (at : ℕ) (numbers : List ℕ) (k : ℕ) {table : List ℕ} → table ≡ paste d at numbers k → at + k ≤ length d → k ≤ length numbers → length table ≡ length d
-pasted_length d at numbers k e l m = ap length e ∙ length-paste d at numbers k l m
-
-pub pasted_all : (d : List ℕ) (at : ℕ) (numbers : List ℕ) (k : ℕ) {table : List ℕ} → k ≡ numbers_per_payment → table ≡ paste d at numbers k
-    → table ≡ paste d at numbers numbers_per_payment
-pasted_all d at numbers k e f = f ∙ ap (λ (n : ℕ). paste d at numbers n) e
-
 -- the contents of row 16, the payment's or else its block's
-pub kind_found : {s tree : List ℕ} {f : Found} (p : Payment) → Finds s tree (either_of (child 16 p.own) (child 16 p.block)) f → Finds s tree (inherited (16 ∷ []) p) f
+pub kind_found : {s tree : List ℕ} {f : code.Option ℕ} (p : Payment) → Finds s tree (either_of (child 16 p.own) (child 16 p.block)) f → Finds s tree (inherited (16 ∷ []) p) f
 unfolding inherited
 kind_found p h = rw (own_row 16 p, block_row 16 p) h
 

@@ -3,7 +3,6 @@
 
 ghost use Rattle.std.specs.Prelude.{◌≡◌, List, ◌++◌, ℕ, ◌+◌, ◌*◌, ◌≤◌, length, drop};
 ghost use Rattle.std.proofs.Math.Option.{Option};
-ghost use Rattle.std.proofs.Math.Seq.{paste};
 ghost use Rattle.paper.specs.Bytes.{each};
 ghost use Rattle.paper.specs.Sizes.{numbers_per_payment, least_table};
 ghost use Rattle.paper.specs.Form.{Element};
@@ -14,14 +13,17 @@ ghost use Rattle.paper.specs.Accepted.{All};
 ghost use Rattle.tree_routes.specs.Finds.{Finds, ByName};
 ghost use Rattle.tree_fields.specs.Routes.{RoutesAre};
 ghost use Rattle.rule_limits.specs.Ordered.{Ordered, IsPayment};
-ghost use Rattle.verdict_table.specs.Rows.{SpanIs, SpansOf, row_of, Fitting};
+ghost use Rattle.verdict_table.specs.Rows.{SpanIs, SpansOf, cut, row_of, Fitting};
 
 use rule_limits::{Order, PaymentAt};
 use tree::Tree;
 use tree_fields::Routes;
-use tree_routes::{Children, Found};
+use tree_routes::Children;
 
-// A part of the message.
+// Message, tree, order and the first children of a payment and of its block stay parameters: one message is at work here, so nothing can be taken for another's, and in a struct
+// of what is lent each contract would say `message.entry.tree.now` for `tree.now`.
+
+// A part of the message: numbers, and no slice, as the lent table has them.
 #[derive(Clone, Copy)]
 pub struct Span {
     pub start: usize,
@@ -44,21 +46,18 @@ pub struct Spans {
 // The numbers of a payment.
 type Numbers = [u32; paper::NUMBERS_PER_PAYMENT];
 
-// The part that an element holds; 0, 0 where there is none.
-fn span_of(tree: &Tree, found: Found) -> Span
+// The part that an element holds; 0, 0 and no None where there is none, as the lent table has it.
+fn span_of(tree: &Tree, found: Option<usize>) -> Span
     ensures { (s : List ℕ) (o : Option Element) → Finds s tree.now o found → SpanIs s (part_of o) result }
 {
-    let Found::At(i) = found else {
+    let Some(i) = found else {
         return Span { start: 0, size: 0 };
     };
     let start = tree::cell(tree, i, 2);
     let close = tree::cell(tree, i, 3);
-    if close < start {
-        return Span { start: 0, size: 0 };
-    }
     Span {
         start,
-        size: close - start,
+        size: close.saturating_sub(start),
     }
 }
 
@@ -87,7 +86,7 @@ fn spans_of(tree: &Tree, routes: &Routes, own: &Children, block: &Children) -> S
         ultimate: field_span(tree, routes, own, block, 8),
         kind: span_of(
             tree,
-            tree_routes::either(tree_routes::first(own, 16), tree_routes::first(block, 16)),
+            tree_routes::first(own, 16).or(tree_routes::first(block, 16)),
         ),
         debtor: field_span(tree, routes, own, block, 6),
         bic: field_span(tree, routes, own, block, 12),
@@ -95,49 +94,40 @@ fn spans_of(tree: &Tree, routes: &Routes, own: &Children, block: &Children) -> S
     }
 }
 
+// A number's low 32 bits. (`as`, which is proved to fit: `try_from` would have an error to answer. So it is with cents below.)
+// (Cents are of 64 bits: one for both would need a trait for one `%`.)
+fn low_32(n: usize) -> u32
+    ensures { result ≡ cut n }
+{
+    (n % 4294967296) as u32
+}
+
 // The numbers, each of 32 bits.
 fn row(number: usize, of: Spans, cents: u64, at: usize) -> Numbers
     ensures { result ≡ row_of number of cents at }
 {
     [
-        (number % 4294967296) as u32,
-        (of.id.start % 4294967296) as u32,
-        (of.id.size % 4294967296) as u32,
-        (of.creditor.start % 4294967296) as u32,
-        (of.creditor.size % 4294967296) as u32,
-        (of.name.start % 4294967296) as u32,
-        (of.name.size % 4294967296) as u32,
-        (of.ultimate.start % 4294967296) as u32,
-        (of.ultimate.size % 4294967296) as u32,
-        (of.kind.start % 4294967296) as u32,
-        (of.kind.size % 4294967296) as u32,
-        (of.debtor.start % 4294967296) as u32,
-        (of.debtor.size % 4294967296) as u32,
+        low_32(number),
+        low_32(of.id.start),
+        low_32(of.id.size),
+        low_32(of.creditor.start),
+        low_32(of.creditor.size),
+        low_32(of.name.start),
+        low_32(of.name.size),
+        low_32(of.ultimate.start),
+        low_32(of.ultimate.size),
+        low_32(of.kind.start),
+        low_32(of.kind.size),
+        low_32(of.debtor.start),
+        low_32(of.debtor.size),
         (cents / 100 % 4294967296) as u32,
         (cents % 100) as u32,
-        (at % 4294967296) as u32,
-        (of.bic.start % 4294967296) as u32,
-        (of.bic.size % 4294967296) as u32,
-        (of.remittance.start % 4294967296) as u32,
-        (of.remittance.size % 4294967296) as u32,
+        low_32(at),
+        low_32(of.bic.start),
+        low_32(of.bic.size),
+        low_32(of.remittance.start),
+        low_32(of.remittance.size),
     ]
-}
-
-// A payment's numbers at a place of the table, where it has them.
-fn put(table: &mut [u32], at: usize, numbers: Numbers)
-    ensures { at + numbers_per_payment ≤ length table.old → table.new ≡ paste table.old at numbers numbers_per_payment }
-{
-    if table.len() < paper::NUMBERS_PER_PAYMENT {
-        return;
-    }
-    if table.len() - paper::NUMBERS_PER_PAYMENT < at {
-        return;
-    }
-    let mut k = 0;
-    while k < paper::NUMBERS_PER_PAYMENT {
-        table[at + k] = numbers[k];
-        k += 1;
-    }
 }
 
 // The numbers of a payment.
@@ -158,28 +148,24 @@ fn numbers_of(
 }
 
 // Each payment's numbers, in the order of the payments; every later number stays. The first children of a block are known while the block stays the same; of
-// no element at first.
+// no element at first. (No Option for that, and no walk shared with `rule_usage`: a generic one would say in its contract what each step keeps, which is no plainer than two loops.)
 pub fn fill(s: &[u8], tree: &Tree, order: &Order, payments: usize, table: &mut [u32])
     ensures { length s.now ≤ 32768 → (root : Element) → Ordered s.now tree.now order.now root
         → payments ≡ length (all_payments root) → payments ≤ 64 → All Fitting (all_payments root) → least_table ≤ length table.old
         → table.new ≡ each numbers_of (all_payments root) ++ drop (numbers_per_payment * length (all_payments root)) table.old }
 {
+    if table.len() < paper::LEAST_TABLE || paper::MOST_PAYMENTS < payments {
+        return;
+    }
     let routes = tree_fields::routes();
-    let mut k = 0;
     let mut known = tree::ELEMENTS;
     let mut block = tree_routes::by_name(tree, known);
-    while k < payments {
-        if paper::MOST_PAYMENTS <= k {
-            return;
-        }
+    for k in 0..payments {
         let payment = rule_limits::payment(order, k);
         block = tree_routes::by_name_again(tree, payment.block, known, block);
         known = payment.block;
-        put(
-            table,
-            paper::NUMBERS_PER_PAYMENT * k,
-            numbers_of(s, tree, &routes, payment, &block),
-        );
-        k += 1;
+        let numbers = numbers_of(s, tree, &routes, payment, &block);
+        let at = paper::NUMBERS_PER_PAYMENT * k;
+        table[at..at + paper::NUMBERS_PER_PAYMENT].copy_from_slice(&numbers);
     }
 }

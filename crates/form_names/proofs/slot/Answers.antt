@@ -4,7 +4,7 @@ use Rattle.form_names.proofs.Laws.{slot_short, slot_long}
 use Rattle.form_names.proofs.slot.Goals as goal
 
 pub returns-then-size-lt6 : goal.returns-then-size-lt6
-returns-then-size-lt6 c = (slot_short _ c.if-size-lt6.true c.wide.ensures.0 c.wide-then-size-lt6.ensures.0, mod-lt _ (omega arith))
+returns-then-size-lt6 c = (slot_short _ c.if-size-lt6.true c.from.ensures c.from-then-size-lt6.ensures, mod-lt _ (omega arith))
 
 pub returns : goal.returns
-returns c = (slot_long _ c.if-size-lt6.false c.wide-2.ensures.0 c.wide-3.ensures.0, mod-lt _ (omega arith))
+returns c = (slot_long _ c.if-size-lt6.false c.from-2.ensures c.from-3.ensures, mod-lt _ (omega arith))

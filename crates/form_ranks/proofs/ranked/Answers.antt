@@ -2,10 +2,10 @@ use borrow.Author.Tests.{le-leb, lt-leb}
 use Rattle.paper.specs.Values.{lies_from}
 use Rattle.form_ranks.proofs.ranked.Goals as goal
 
-pub returns-then-r-low : goal.returns-then-r-low
+pub returns-then-low-r : goal.returns-then-low-r
 unfolding lies_from
-returns-then-r-low c = λ t. rw (← c.rank-r.ensures t, lt-leb _ _ c.if-r-low.true)
+returns-then-low-r c = λ t. rw (← c.rank-r.ensures t, le-leb _ _ c.if-low-r.true)
 
-pub returns : goal.returns
+pub returns-else-low-r : goal.returns-else-low-r
 unfolding lies_from
-returns c = λ t. rw (← c.rank-r.ensures t, le-leb _ _ c.if-r-low.false)
+returns-else-low-r c = λ t. rw (← c.rank-r.ensures t, lt-leb _ _ c.if-low-r.false)

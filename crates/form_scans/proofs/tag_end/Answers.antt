@@ -1,23 +1,21 @@
 use native.Mathlib.Omega.{arith}
-use mathlib.Core.Path.{◌∙◌}
+use mathlib.Core.Path.{sym, ◌∙◌}
 use borrow.Author.Tests.{eq-eqb, ne_eqb}
+use Rattle.std.proofs.lemmas.Grind.{get_or_default_zero}
 use Rattle.form_scans.proofs.TagLaws.{tag_stops, tag_closes, tag_amount, of_amount, amount_at}
 use Rattle.form_scans.proofs.tag_end.Goals as goal
 
-pub returns-then-s-at : goal.returns-then-s-at
-returns-then-s-at c = λ n h e name depth lt room f g. let a = c.if-s-at.true in absurd (omega (arith, a, h))
+pub returns-in-62 : goal.returns-in-62
+returns-in-62 c = λ n h e name depth lt room f g. let b = c.in-Some.ensures.lookup.1 ∙ get_or_default_zero _ _ _ h in tag_closes _ name depth lt room _ h g (sym b ∙ c.in-62.is) (of_amount name f ∙ ne_eqb _ 42 c.if-number-ne42.true)
 
-pub returns-then-number-eq42 : goal.returns-then-number-eq42
-returns-then-number-eq42 c = λ n h e name depth lt room f g. tag_stops _ name depth lt room _ h e (λ _. of_amount name f ∙ eq-eqb _ 42 c.if-number-eq42.true) (λ z. let a = c.if-s-at-eq62.true in absurd (omega (arith, a, z)))
+pub returns-in-32 : goal.returns-in-32
+returns-in-32 c = λ n h e name depth lt room f g. let b = c.in-Some.ensures.lookup.1 ∙ get_or_default_zero _ _ _ h in let a = of_amount name f ∙ eq-eqb _ 42 c.if-number-eq42.true in tag_amount _ name depth lt room _ h (sym b ∙ c.in-32.is) a (c.currency.ensures n depth lt (amount_at name _ lt a g))
 
-pub returns-then-s-at-eq62 : goal.returns-then-s-at-eq62
-returns-then-s-at-eq62 c = λ n h e name depth lt room f g. tag_closes _ name depth lt room _ h g c.if-s-at-eq62.true (of_amount name f ∙ ne_eqb _ 42 c.if-number-eq42.false)
+pub returns-in_default-byte : goal.returns-in_default-byte
+returns-in_default-byte c = λ n h e name depth lt room f g. let b = c.in-Some.ensures.lookup.1 ∙ get_or_default_zero _ _ _ h in let d = c.in-62.is in tag_stops _ name depth lt room _ h e (λ _. of_amount name f ∙ eq-eqb _ 42 c.if-number-ne42.false) (λ z. absurd (omega (arith, b, d, z)))
 
-pub returns-then-s-at-ne32 : goal.returns-then-s-at-ne32
-returns-then-s-at-ne32 c = λ n h e name depth lt room f g. tag_stops _ name depth lt room _ h e (λ z. absurd (c.if-s-at-eq62.false z)) (λ z. absurd (c.if-s-at-ne32.true z))
+pub returns-in_default-byte-2 : goal.returns-in_default-byte-2
+returns-in_default-byte-2 c = λ n h e name depth lt room f g. let b = c.in-Some.ensures.lookup.1 ∙ get_or_default_zero _ _ _ h in let d = c.in-32.is in tag_stops _ name depth lt room _ h e (λ z. absurd (omega (arith, b, d, z))) (λ _. of_amount name f ∙ ne_eqb _ 42 c.if-number-eq42.false)
 
-pub returns-then-number-ne42 : goal.returns-then-number-ne42
-returns-then-number-ne42 c = λ n h e name depth lt room f g. tag_stops _ name depth lt room _ h e (λ z. absurd (c.if-s-at-eq62.false z)) (λ _. of_amount name f ∙ ne_eqb _ 42 c.if-number-ne42.true)
-
-pub returns : goal.returns
-returns c = λ n h e name depth lt room f g. let a = of_amount name f ∙ eq-eqb _ 42 c.if-number-ne42.false in tag_amount _ name depth lt room _ h c.if-s-at-ne32.false a (c.currency.ensures n depth lt (amount_at name _ lt a g))
+pub returns-in_default-byte-3 : goal.returns-in_default-byte-3
+returns-in_default-byte-3 c = λ n h e name depth lt room f g. let b = c.in-Some.ensures.lookup.1 ∙ get_or_default_zero _ _ _ h in tag_stops _ name depth lt room _ h e (λ z. absurd (omega (arith, b, z))) (λ z. absurd (omega (arith, b, z)))

@@ -1,14 +1,14 @@
-use Rattle.form_scans.proofs.TagLaws.{three_read, first_missing, second_missing, third_missing}
+use native.Mathlib.Omega.{arith}
+use mathlib.Core.Path.{subst}
+use Rattle.form_scans.specs.Scans.{CapitalAt}
+use Rattle.form_scans.proofs.TagLaws.{three_read, one_missing, one_more}
 use Rattle.form_scans.proofs.three_capitals.Goals as goal
 
 pub returns-then-not-capital_at : goal.returns-then-not-capital_at
-returns-then-not-capital_at c = λ n. first_missing (c.capital_at.ensures n) c.if-not-capital_at.true
+returns-then-not-capital_at c = λ n. one_missing (c.loop-k.invariant n) c.loop-k.auto.k c.loop-k-test.true (subst (CapitalAt c.args.s.now c.loop-k.k) c.if-not-capital_at.true (c.capital_at.ensures n))
 
-pub returns-then-not-capital_at-2 : goal.returns-then-not-capital_at-2
-returns-then-not-capital_at-2 c = λ n. second_missing (c.capital_at.ensures n) c.if-not-capital_at.false (c.capital_at-2.ensures n) c.if-not-capital_at-2.true
-
-pub returns-then-not-capital_at-3 : goal.returns-then-not-capital_at-3
-returns-then-not-capital_at-3 c = λ n. third_missing (c.capital_at.ensures n) c.if-not-capital_at.false (c.capital_at-2.ensures n) c.if-not-capital_at-2.false (c.capital_at-3.ensures n) c.if-not-capital_at-3.true
+pub loop-k-preserved : goal.loop-k-preserved
+loop-k-preserved c = λ n. one_more (c.loop-k.invariant n) (subst (CapitalAt c.args.s.now c.loop-k.k) c.if-not-capital_at.false (c.capital_at.ensures n))
 
 pub returns : goal.returns
-returns c = λ n. three_read (c.capital_at.ensures n) c.if-not-capital_at.false (c.capital_at-2.ensures n) c.if-not-capital_at-2.false (c.capital_at-3.ensures n) c.if-not-capital_at-3.false
+returns c = λ n. three_read (λ j l u. c.loop-k.invariant n j l (omega (arith, u)))

@@ -2,9 +2,9 @@ use native.Mathlib.Omega.{arith}
 use mathlib.Core.Path.{sym, ◌∙◌}
 use Rattle.paper.specs.Bytes.{bytes}
 use Rattle.paper.specs.Values.{date}
-use Rattle.leaf_texts.specs.Shapes.{fits_byte}
-use Rattle.leaf_texts.proofs.Laws.{shaped_is, pairwise-same-length}
+use Rattle.leaf_texts.proofs.Laws.{shaped_is}
 use Rattle.leaf_numbers.proofs.Laws.{spelled_part}
+use Rattle.leaf_days.proofs.Times.{date_long}
 use Rattle.leaf_days.proofs.date.Goals as goal
 
 pub returns-then-not-shaped : goal.returns-then-not-shaped
@@ -12,13 +12,16 @@ unfolding date bytes
 returns-then-not-shaped c = rw (shaped_is "0000-00-00" c.args.s.now ∙ sym c.shaped.ensures ∙ c.if-not-shaped.true)
 
 pub slice_bounds-number-end : goal.slice_bounds-number-end
-slice_bounds-number-end c = omega (arith, pairwise-same-length fits_byte _ _ (sym c.shaped.ensures ∙ c.if-not-shaped.false))
+unfolding bytes
+slice_bounds-number-end c = omega (arith, date_long c.args.s.now (sym c.shaped.ensures ∙ c.if-not-shaped.false))
 
 pub slice_bounds-number-end-2 : goal.slice_bounds-number-end-2
-slice_bounds-number-end-2 c = omega (arith, pairwise-same-length fits_byte _ _ (sym c.shaped.ensures ∙ c.if-not-shaped.false))
+unfolding bytes
+slice_bounds-number-end-2 c = omega (arith, date_long c.args.s.now (sym c.shaped.ensures ∙ c.if-not-shaped.false))
 
 pub slice_bounds-number-end-3 : goal.slice_bounds-number-end-3
-slice_bounds-number-end-3 c = omega (arith, pairwise-same-length fits_byte _ _ (sym c.shaped.ensures ∙ c.if-not-shaped.false))
+unfolding bytes
+slice_bounds-number-end-3 c = omega (arith, date_long c.args.s.now (sym c.shaped.ensures ∙ c.if-not-shaped.false))
 
 pub returns : goal.returns
 unfolding date bytes

@@ -21,10 +21,10 @@ slice_bounds-number-end c = omega (arith, signed_long _ (sym c.signed.ensures �
 pub slice_bounds-number-end-2 : goal.slice_bounds-number-end-2
 slice_bounds-number-end-2 c = omega (arith, signed_long _ (sym c.signed.ensures ∙ c.if-not-signed.false))
 
-pub returns-then-minutes-gt59 : goal.returns-then-minutes-gt59
+pub returns-then-minutes-le59 : goal.returns-then-minutes-le59
 unfolding zone bytes
-returns-then-minutes-gt59 c = rw (sym c.same.ensures ∙ c.if-same.false, sym c.signed.ensures ∙ c.if-not-signed.false, ← spelled_part c.args.s.now 4 2 _ (omega arith) c.number-minutes.ensures, lt-leb _ _ c.if-minutes-gt59.true)
+returns-then-minutes-le59 c = rw (sym c.same.ensures ∙ c.if-same.false, sym c.signed.ensures ∙ c.if-not-signed.false, ← spelled_part c.args.s.now 4 2 _ (omega arith) c.number-minutes.ensures, le-leb _ _ c.if-minutes-le59.true, ← spelled_part c.args.s.now 1 2 _ (omega arith) c.number-hours.ensures)
 
-pub returns : goal.returns
+pub returns-else-minutes-le59 : goal.returns-else-minutes-le59
 unfolding zone bytes
-returns c = rw (sym c.same.ensures ∙ c.if-same.false, sym c.signed.ensures ∙ c.if-not-signed.false, ← spelled_part c.args.s.now 4 2 _ (omega arith) c.number-minutes.ensures, le-leb _ _ c.if-minutes-gt59.false, ← spelled_part c.args.s.now 1 2 _ (omega arith) c.number-hours.ensures)
+returns-else-minutes-le59 c = rw (sym c.same.ensures ∙ c.if-same.false, sym c.signed.ensures ∙ c.if-not-signed.false, ← spelled_part c.args.s.now 4 2 _ (omega arith) c.number-minutes.ensures, lt-leb _ _ c.if-minutes-le59.false)

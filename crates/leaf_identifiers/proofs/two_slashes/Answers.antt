@@ -1,13 +1,14 @@
-use borrow.Author.Rules.{rules}
-use mathlib.Core.Path.{sym, ◌∙◌}
-use Rattle.leaf_texts.proofs.Laws.{slashes_goes, slashes_stops, slashes_ends}
+use Rattle.std.proofs.Common.{rules, tests}
+use lib.Dec.{eqb}
+use mathlib.Core.Bool.{◌&&◌}
+use Rattle.std.proofs.lemmas.Iterator.{YieldsList-from_slice, YieldsList-from_zip}
+use Rattle.std.proofs.lemmas.Iterator.Adapters.{YieldsList-from_skip}
+use Rattle.std.proofs.lemmas.Iterator.Search.{any_from_yields_List}
+use Rattle.leaf_identifiers.proofs.Slashes.{slashes_is}
 use Rattle.leaf_identifiers.proofs.two_slashes.Goals as goal
 
-pub returns-then-slash_and_slash : goal.returns-then-slash_and_slash
-returns-then-slash_and_slash c = sym (c.loop-i.invariant.1 ∙ slashes_stops _ _ c.loop-i-test.true (rw (← c.byte_at.ensures, ← c.slash_and_slash.ensures) c.if-slash_and_slash.true))
-
-pub loop-i-preserved : goal.loop-i-preserved
-loop-i-preserved c = (search rules, c.loop-i.invariant.1 ∙ slashes_goes _ _ c.loop-i-test.true (rw (← c.byte_at.ensures, ← c.slash_and_slash.ensures) c.if-slash_and_slash.false))
-
 pub returns : goal.returns
-returns c = sym (c.loop-i.invariant.1 ∙ slashes_ends _ _ c.loop-i-test.false)
+returns c =
+    rw (slashes_is c.args.s.now)
+    (any_from_yields_List (λ x. eqb x.0 47 && eqb x.1 47) c.any.new.self _ _ c.any.ensures.ran
+    (YieldsList-from_zip {s = c.zip.result} (YieldsList-from_slice c.args.s.now cc) (YieldsList-from_skip 1 (YieldsList-from_slice c.args.s.now cc) cc)) (λ x b q k. search (rules, tests)))

@@ -1,25 +1,29 @@
-use Rattle.move_alike.proofs.Alike.{free_first, free_second, not_free}
-use Rattle.tree_routes.proofs.WhatIsFound.{found_none, found_some}
+use mathlib.Core.Path.{refl}
+use Rattle.paper.specs.Bytes.{every}
+use Rattle.form_names.specs.Names.{is_sought}
+use Rattle.tree_routes.specs.Finds.{rows_in}
+use Rattle.move_alike.proofs.Alike.{not_free, a_free_text, none_found}
+use Rattle.tree_routes.proofs.WhatIsFound.{found_none}
 use Rattle.move_alike.specs.Alike.{free_of, issuer_of, reference_of}
 use Rattle.move_alike.proofs.same_remittance.Goals as goal
+use Rattle.move_alike.proofs.same_remittance.Goals.{in_default-via-in-None+in_default, in_default-via-in_default}
 
-pub returns-in-At : goal.returns-in-At
-returns-in-At c =
+pub returns-in-None-None : goal.returns-in-None-None
+unfolding rows_in every is_sought
+returns-in-None-None c =
     λ p q b d.
-    let f = c.free-free1.ensures _ p b in
-    let e = c.same_given.ensures _ _ f (c.free-free2.ensures _ q d) in
-    free_first (issuer_of p) (issuer_of q) (reference_of p) (reference_of q) (free_of p) (free_of q) (found_some f c.in-At.is).is_it e
-
-pub returns-in-At-free2 : goal.returns-in-At-free2
-returns-in-At-free2 c =
-    λ p q b d.
-    let f = found_none (c.free-free1.ensures _ p b) c.in_default.is in
-    let g = (found_some (c.free-free2.ensures _ q d) c.in-At-free2.is).is_it in
-    free_second (issuer_of p) (issuer_of q) (reference_of p) (reference_of q) (free_of p) (free_of q) f g
-
-pub returns : goal.returns
-returns c =
-    λ p q b d.
-    let f = found_none (c.free-free1.ensures _ p b) c.in_default.is in
-    let g = found_none (c.free-free2.ensures _ q d) c.in_default-free2.is in
+    let f = found_none (c.remittance-free1.ensures _ p refl b) c.in-None-None.is-0 in
+    let g = found_none (c.remittance-free2.ensures _ q refl d) c.in-None-None.is-1 in
     not_free (issuer_of p) (issuer_of q) (reference_of p) (reference_of q) (free_of p) (free_of q) f g (c.same_structured.ensures p q b d)
+
+pub returns-in_default : goal.returns-in_default
+unfolding rows_in every is_sought
+returns-in_default c =
+    λ p q b d.
+    let f = c.remittance-free1.ensures _ p refl b in
+    let g = c.remittance-free2.ensures _ q refl d in
+    let e = c.same_given.ensures _ _ f g in
+    a_free_text (issuer_of p) (issuer_of q) (reference_of p) (reference_of q) (free_of p) (free_of q)
+    (λ x y. let u = none_found f x in let v = none_found g y in
+    elim c.in_default.branch [ in_default-via-in-None+in_default w ↦ cc (v, w.in_default.is-1) | in_default-via-in_default w ↦ cc (u, w.in_default.is-0) ])
+    e

@@ -1,4 +1,5 @@
 use Rattle.move_compared.proofs.Compared.{remittance_field, batch_field, priority_field, cents_field, amount_element, plain_field}
+use native.Mathlib.Omega.{arith}
 use Rattle.paper.specs.Bytes.{bytes}
 use Rattle.move_compared.proofs.same_field.Goals as goal
 
@@ -6,33 +7,27 @@ pub returns-then-field-eq17 : goal.returns-then-field-eq17
 returns-then-field-eq17 c =
     λ p q w g h a b. remittance_field p q c.if-field-eq17.true (c.same_remittance.ensures p q g.own_is h.own_is)
 
-pub returns-then-field-eq1 : goal.returns-then-field-eq1
+pub returns-in-1 : goal.returns-in-1
 unfolding bytes
-returns-then-field-eq1 c =
+returns-in-1 c =
     λ p q w g h a b.
-    let f = c.field_at-mine.ensures _ p w g.own_is g.block_is in
-    let k = c.field_at-theirs.ensures _ q w h.own_is h.block_is in
-    batch_field p q c.if-field-eq1.true (c.same_or.ensures _ _ f k)
+    batch_field p q c.in-1.is (c.same_or.ensures _ _ (c.field-mine.ensures p w g) (c.field-theirs.ensures q w h))
 
-pub returns-then-field-eq2 : goal.returns-then-field-eq2
+pub returns-in-2 : goal.returns-in-2
 unfolding bytes
-returns-then-field-eq2 c =
+returns-in-2 c =
     λ p q w g h a b.
-    let f = c.field_at-mine.ensures _ p w g.own_is g.block_is in
-    let k = c.field_at-theirs.ensures _ q w h.own_is h.block_is in
-    priority_field p q c.if-field-eq2.true (c.same_or-then-field-eq2.ensures _ _ f k)
+    priority_field p q c.in-2.is (c.same_or-in-2.ensures _ _ (c.field-mine.ensures p w g) (c.field-theirs.ensures q w h))
 
-pub returns-then-field-eq11 : goal.returns-then-field-eq11
-returns-then-field-eq11 c =
+pub returns-in-11 : goal.returns-in-11
+returns-in-11 c =
     λ p q w g h a b.
-    let f = c.field_at-mine.ensures _ p w g.own_is g.block_is in
-    let k = c.field_at-theirs.ensures _ q w h.own_is h.block_is in
-    let e = c.if-field-eq11.true in
-    cents_field p q e (c.same_cents.ensures _ _ f k (amount_element p e g.amount_is) (amount_element q e h.amount_is))
+    let e = c.in-11.is in
+    let x = c.same_cents.ensures _ _ (c.field-mine.ensures p w g) (c.field-theirs.ensures q w h) in
+    cents_field p q e (x (amount_element p e g.amount_is) (amount_element q e h.amount_is))
 
-pub returns : goal.returns
-returns c =
+pub returns-in_default : goal.returns-in_default
+returns-in_default c =
     λ p q w g h a b.
-    let f = c.field_at-mine.ensures _ p w g.own_is g.block_is in
-    let k = c.field_at-theirs.ensures _ q w h.own_is h.block_is in
-    plain_field p q a b c.if-field-eq17.false c.if-field-eq1.false c.if-field-eq2.false c.if-field-eq11.false (c.same_given.ensures _ _ f k)
+    plain_field p q a b (λ e. omega (arith, e)) (λ e. omega (arith, e)) (λ e. omega (arith, e)) (λ e. omega (arith, e))
+    (c.same_given.ensures _ _ (c.field-mine.ensures p w g) (c.field-theirs.ensures q w h))

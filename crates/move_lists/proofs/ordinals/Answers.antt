@@ -1,20 +1,27 @@
-use Rattle.paper.specs.Bytes.{bytes}
-use Rattle.move_lists.proofs.Lists.{too_short, other_tag, other_version, other_count, of_the_form}
+use native.Mathlib.Omega.{arith}
+use Rattle.move_lists.proofs.Lists.{other_head, behind_head}
 use Rattle.move_lists.proofs.ordinals.Goals as goal
 
-pub returns-then-list-lt7 : goal.returns-then-list-lt7
-returns-then-list-lt7 c = too_short c.args.list.now c.if-list-lt7.true
+pub returns-in_default : goal.returns-in_default
+returns-in_default c = other_head c.args.list.now (λ h. omega (arith, h))
 
-pub returns-then-not-same : goal.returns-then-not-same
-unfolding bytes
-returns-then-not-same c = other_tag c.args.list.now c.same.ensures c.if-not-same.true
+pub returns-in_default-2 : goal.returns-in_default-2
+returns-in_default-2 c = other_head c.args.list.now (λ h. omega (arith, h))
 
-pub returns-then-number_at-ne1 : goal.returns-then-number_at-ne1
-returns-then-number_at-ne1 c = other_version c.args.list.now c.number_at.ensures.0 c.if-number_at-ne1.true
+pub returns-in_default-3 : goal.returns-in_default-3
+returns-in_default-3 c = other_head c.args.list.now (λ h. omega (arith, h))
 
-pub returns-then-list-count : goal.returns-then-list-count
-returns-then-list-count c = other_count c.args.list.now c.number_at-count.ensures.0 c.if-list-count.true
+pub returns-in_default-4 : goal.returns-in_default-4
+returns-in_default-4 c = other_head c.args.list.now (λ h. omega (arith, h))
+
+pub returns-in_default-5 : goal.returns-in_default-5
+returns-in_default-5 c = other_head c.args.list.now (λ h. omega (arith, h))
+
+pub returns-in_default-6 : goal.returns-in_default-6
+returns-in_default-6 c = other_head c.args.list.now (λ h. omega (arith, h))
 
 pub returns : goal.returns
-unfolding bytes
-returns c = of_the_form c.args.list.now c.same.ensures c.if-not-same.false c.number_at.ensures.0 c.if-number_at-ne1.false c.number_at-count.ensures.0 c.if-list-count.false
+returns c =
+    behind_head c.args.list.now
+    (record { long = omega arith; first = omega arith; second = omega arith; third = omega arith; high = omega arith; low = omega arith })
+    c.then_some.ensures c.number-count.ensures.0

@@ -1,39 +1,15 @@
-use Rattle.move_regrouping.proofs.Laws.{NotTwenty, part_of_20, no_part, empty_part, that_part}
+use Rattle.move_regrouping.proofs.Laws.{part_of_20, no_part, empty_part, that_part, not_20}
 use mathlib.Core.Path.{refl}
 use borrow.Author.Rules.{rules}
+use Rattle.move_regrouping.proofs.differing.Goals.{in_default-via-in-Err+in_default, in_default-via-in_default}
 use Rattle.move_regrouping.proofs.differing.Goals as goal
 
-pub returns-in-FieldsDiffer : goal.returns-in-FieldsDiffer
-returns-in-FieldsDiffer c = that_part (part_of_20 _ c.args.first.now c.args.second.now c.args.list.now c.regroup-answer.ensures c.in-FieldsDiffer.is) (rw c.as_new.ensures at c.field.ensures)
+pub returns-in-Err-FieldsDiffer : goal.returns-in-Err-FieldsDiffer
+returns-in-Err-FieldsDiffer c =
+    that_part (part_of_20 _ c.args.first.now c.args.second.now c.args.list.now c.regroup.ensures (rw (c.in-Err-FieldsDiffer.is, c.in-Err-FieldsDiffer.field-0-is))) (rw c.as_new.ensures at c.field.ensures)
 
-pub returns-in-Accepted : goal.returns-in-Accepted
-unfolding NotTwenty
-returns-in-Accepted c = empty_part (no_part _ c.args.first.now c.args.second.now c.args.list.now c.regroup-answer.ensures c.in-Accepted.is tt) (record { bytes_are = refl; in_the_message = refl; at_its_place = search rules })
-
-pub returns-in-FirstRefused : goal.returns-in-FirstRefused
-unfolding NotTwenty
-returns-in-FirstRefused c = empty_part (no_part _ c.args.first.now c.args.second.now c.args.list.now c.regroup-answer.ensures c.in-FirstRefused.is tt) (record { bytes_are = refl; in_the_message = refl; at_its_place = search rules })
-
-pub returns-in-SecondRefused : goal.returns-in-SecondRefused
-unfolding NotTwenty
-returns-in-SecondRefused c = empty_part (no_part _ c.args.first.now c.args.second.now c.args.list.now c.regroup-answer.ensures c.in-SecondRefused.is tt) (record { bytes_are = refl; in_the_message = refl; at_its_place = search rules })
-
-pub returns-in-NumbersOfPaymentsDiffer : goal.returns-in-NumbersOfPaymentsDiffer
-unfolding NotTwenty
-returns-in-NumbersOfPaymentsDiffer c = empty_part (no_part _ c.args.first.now c.args.second.now c.args.list.now c.regroup-answer.ensures c.in-NumbersOfPaymentsDiffer.is tt) (record { bytes_are = refl; in_the_message = refl; at_its_place = search rules })
-
-pub returns-in-ListNotOfTheForm : goal.returns-in-ListNotOfTheForm
-unfolding NotTwenty
-returns-in-ListNotOfTheForm c = empty_part (no_part _ c.args.first.now c.args.second.now c.args.list.now c.regroup-answer.ensures c.in-ListNotOfTheForm.is tt) (record { bytes_are = refl; in_the_message = refl; at_its_place = search rules })
-
-pub returns-in-CountNotTheNumberOfPayments : goal.returns-in-CountNotTheNumberOfPayments
-unfolding NotTwenty
-returns-in-CountNotTheNumberOfPayments c = empty_part (no_part _ c.args.first.now c.args.second.now c.args.list.now c.regroup-answer.ensures c.in-CountNotTheNumberOfPayments.is tt) (record { bytes_are = refl; in_the_message = refl; at_its_place = search rules })
-
-pub returns-in-OrdinalTooLarge : goal.returns-in-OrdinalTooLarge
-unfolding NotTwenty
-returns-in-OrdinalTooLarge c = empty_part (no_part _ c.args.first.now c.args.second.now c.args.list.now c.regroup-answer.ensures c.in-OrdinalTooLarge.is tt) (record { bytes_are = refl; in_the_message = refl; at_its_place = search rules })
-
-pub returns-in-NamedBefore : goal.returns-in-NamedBefore
-unfolding NotTwenty
-returns-in-NamedBefore c = empty_part (no_part _ c.args.first.now c.args.second.now c.args.list.now c.regroup-answer.ensures c.in-NamedBefore.is tt) (record { bytes_are = refl; in_the_message = refl; at_its_place = search rules })
+pub returns-in_default : goal.returns-in_default
+returns-in_default c =
+    empty_part (no_part _ c.args.first.now c.args.second.now c.args.list.now c.regroup.ensures
+    (λ k field e. elim c.in_default.branch [ in_default-via-in-Err+in_default w ↦ not_20 e w.in_default.is (λ t. search rules) | in_default-via-in_default w ↦ cc (e, w.in_default.is) ]))
+    (record { bytes_are = refl; in_the_message = refl; at_its_place = search rules })

@@ -5,5 +5,5 @@ use Rattle.rows.proofs.judging_of.Goals as goal
 pub returns-then-judging : goal.returns-then-judging
 returns-then-judging c = rw c.if-judging.true (judges_values _ _ c.of_values.ensures)
 
-pub returns : goal.returns
-returns c = rw c.if-judging.false rows_judged
+pub returns-else-judging : goal.returns-else-judging
+returns-else-judging c = rw c.if-judging.false rows_judged

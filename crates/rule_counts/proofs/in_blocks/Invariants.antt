@@ -1,4 +1,3 @@
-use Prim.Native.Nat.{◌-◌}
 use mathlib.Core.List.{List}
 use Rattle.paper.specs.Form.{Element}
 use Rattle.rule_counts.specs.Counted.{BlocksFrom}
@@ -7,6 +6,3 @@ use Rattle.rule_counts.proofs.in_blocks.Given as goal
 
 abbrev pub invariant-loop-k : goal.invariant-loop-k
 invariant-loop-k l = (bs : List Element) → BlocksFrom l.s l.tree l.order 0 0 l.blocks l.payments bs → BlocksLeft l.s l.tree l.order l.k l.from l.blocks l.payments bs
-
-abbrev pub decreases-loop-k : goal.decreases-loop-k
-decreases-loop-k l = l.blocks - l.k

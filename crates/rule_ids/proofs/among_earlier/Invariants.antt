@@ -1,4 +1,4 @@
-use Prim.Native.Nat.{◌≤◌, ◌-◌}
+use Prim.Native.Nat.{◌≤◌}
 use mathlib.Core.List.{List}
 use mathlib.Core.Path.{◌≡◌}
 use lib.ListN.{length}
@@ -12,6 +12,3 @@ use Rattle.rule_ids.proofs.among_earlier.Given as goal
 abbrev pub invariant-loop-j : goal.invariant-loop-j
 invariant-loop-j l =
     (bs : List Element) (t : Element) → BlocksAt l.s l.tree l.order 0 bs → l.k ≡ length bs → l.k ≤ 16 → LaidAt l.s l.tree l.id t → Unmatched l.s l.tree l.order (text_of t) bs l.j l.k
-
-abbrev pub decreases-loop-j : goal.decreases-loop-j
-decreases-loop-j l = l.k - l.j

@@ -6,8 +6,8 @@ use Rattle.rule_ids.proofs.has_id.Goals as goal
 
 pub returns-in_default : goal.returns-in_default
 unfolding is_sought
-returns-in_default c = λ b t lb lt. id_absent (text_of t) (c.child-found.ensures c.args.s.now b refl lb) c.in_default.is
+returns-in_default c = λ b t lb lt. id_absent (text_of t) (c.child.ensures c.args.s.now b refl lb) c.in_default.is
 
 pub returns : goal.returns
 unfolding is_sought
-returns c = λ b t lb lt. id_there (text_of t) (c.child-found.ensures c.args.s.now b refl lb) c.in-At.is (c.text.ensures t lt) c.text-2.ensures c.same.ensures
+returns c = λ b t lb lt. id_there (text_of t) (c.child.ensures c.args.s.now b refl lb) c.in-Some.is (c.text.ensures t lt) c.text-2.ensures c.same.ensures

@@ -16,7 +16,7 @@ unfolding is_sought id_refusal refusal_of
 returns-in_default c =
     let s = c.args.s.now in
     λ bs b a e n l.
-    let found = c.child-found.ensures s b refl (stands_at (c.block.ensures n) l) in
+    let found = c.child.ensures s b refl (stands_at (c.block.ensures n) l) in
     leaf_absent (λ w. not (among_texts w (with_ids [] bs))) 11 11 found (BlockIdRepeated _) c.in_default.is refl
 
 pub returns-then-among_earlier : goal.returns-then-among_earlier
@@ -24,8 +24,8 @@ unfolding is_sought id_refusal refusal_of
 returns-then-among_earlier c =
     let s = c.args.s.now in
     λ bs b a e n l.
-    let found = c.child-found.ensures s b refl (stands_at (c.block.ensures n) l) in
-    leaf_wrong (λ w. not (among_texts w (with_ids [] bs))) 11 11 found (BlockIdRepeated _) c.in-At.is
+    let found = c.child.ensures s b refl (stands_at (c.block.ensures n) l) in
+    leaf_wrong (λ w. not (among_texts w (with_ids [] bs))) 11 11 found (BlockIdRepeated _) c.in-Some.is
     (λ t k is. ap not (sym (c.among_earlier.ensures bs t a e (omega (arith, n)) k) ∙ c.if-among_earlier.true)) c.cell.ensures refl
 
 pub returns : goal.returns
@@ -33,6 +33,6 @@ unfolding is_sought id_refusal refusal_of
 returns c =
     let s = c.args.s.now in
     λ bs b a e n l.
-    let found = c.child-found.ensures s b refl (stands_at (c.block.ensures n) l) in
-    leaf_right (λ w. not (among_texts w (with_ids [] bs))) 11 11 found c.in-At.is
+    let found = c.child.ensures s b refl (stands_at (c.block.ensures n) l) in
+    leaf_right (λ w. not (among_texts w (with_ids [] bs))) 11 11 found c.in-Some.is
     (λ t k is. ap not (sym (c.among_earlier.ensures bs t a e (omega (arith, n)) k) ∙ c.if-among_earlier.false))

@@ -1,4 +1,4 @@
-use Prim.Native.Nat.{◌≤◌, ◌-◌}
+use Prim.Native.Nat.{◌≤◌}
 use mathlib.Core.Path.{◌≡◌}
 use lib.ListN.{length}
 use Rattle.paper.specs.Form.{Element}
@@ -10,6 +10,3 @@ use Rattle.rule_ids.proofs.ids_refusal.Given as goal
 abbrev pub invariant-loop-k : goal.invariant-loop-k
 invariant-loop-k l =
     (root : Element) → Ordered l.s l.tree l.order root → l.blocks ≡ length (all_blocks root) → l.blocks ≤ 16 → BeforeId l.s l.tree l.order root l.k l.blocks
-
-abbrev pub decreases-loop-k : goal.decreases-loop-k
-decreases-loop-k l = l.blocks - l.k

@@ -7,8 +7,8 @@ use Rattle.rule_limits.proofs.limits_refusal.Goals as goal
 
 pub returns-in_default : goal.returns-in_default
 unfolding is_sought
-returns-in_default c = ((search rules, search rules), λ s root l room. holds_none (found_none (c.child-top.ensures s root refl l) c.in_default.is))
+returns-in_default c = ((search rules, search rules), λ s root l room. holds_none (found_none (c.child.ensures s root refl l) c.in_default.is))
 
 pub returns : goal.returns
 unfolding is_sought
-returns c = (c.walk.ensures.0, λ s root l room. let f = found_some (c.child-top.ensures s root refl l) c.in-At.is in c.walk.ensures.1 s root f.it f.is_it f.laid room)
+returns c = (c.walk.ensures.0, λ s root l room. let f = found_some (c.child.ensures s root refl l) c.in-Some.is in c.walk.ensures.1 s root f.it f.is_it f.laid room)

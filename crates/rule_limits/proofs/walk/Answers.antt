@@ -1,7 +1,7 @@
 use mathlib.Core.Path.{refl, ◌∙◌}
 use native.Mathlib.Omega.{arith}
 use borrow.Author.Rules.{rules}
-use Rattle.rule_limits.proofs.NestedWalk.{begins, enters, passes, leaves, Exit, left_at_end, left_at_block, left_at_payment, few_said, limits_said}
+use Rattle.rule_limits.proofs.NestedWalk.{begins, enters, passes, leaves, Exit, left_at_end, left_at_block, left_at_payment}
 use Rattle.rule_limits.proofs.walk.Goals as goal
 use Rattle.rule_limits.proofs.walk.Goals.{else-blocks-2-test, then-blocks-2-test+then-blocks-eq-MOST_BLOCKS, then-blocks-2-test+else-blocks-eq-MOST_BLOCKS+then-loop-own-test+then-payments-eq-MOST_PAYMENTS}
 
@@ -46,16 +46,31 @@ blocks-2-preserved c =
       λ s root holder e l. leaves (inner.3 s root holder e l) c.loop-own-test.false c.next_in-block.ensures.1,
     )
 
-pub returns : goal.returns
-returns c =
+-- The three ways out of the walk meet: at its end, and by the label.
+pub returns-in-None : goal.returns-in-None
+returns-in-None c =
     let inv = c.blocks-2.invariant in
-    -- the three ways out of the walk meet
-    let left : Exit c.args.tree.now c.args.order.now c.blocks-2-test.order c.args.initiation c.blocks-2.blocks c.blocks-2-test.payments c.blocks-2-test.element c.blocks-2-test.excess =
+    let left : Exit c.args.tree.now c.args.order.now c.blocks-2-test.order c.args.initiation c.blocks-2.blocks c.blocks-2-test.payments c.blocks-2-test.excess =
     elim c.blocks-2-test.branch [
-      | else-blocks-2-test w ↦ left_at_end inv.0 inv.1 w.blocks-2-test.false inv.3 inv.4 w.order-is w.payments-is (w.element-is ∙ inv.2)
+      | else-blocks-2-test w ↦ left_at_end inv.0 inv.1 w.blocks-2-test.false inv.3 inv.4 w.order-is w.payments-is (w.excess-is ∙ inv.2)
       | then-blocks-2-test+then-blocks-eq-MOST_BLOCKS w ↦
-          left_at_block inv.0 inv.1 w.blocks-2-test.true w.if-blocks-eq-MOST_BLOCKS.true inv.4 w.order-is w.payments-is w.element-is w.excess-is
+          left_at_block inv.0 inv.1 w.blocks-2-test.true w.if-blocks-eq-MOST_BLOCKS.true inv.4 w.payments-is w.cell.ensures w.excess-is
       | then-blocks-2-test+else-blocks-eq-MOST_BLOCKS+then-loop-own-test+then-payments-eq-MOST_PAYMENTS w ↦
-          left_at_payment inv.0 w.loop-own.invariant.0 w.loop-own-test.true w.if-payments-eq-MOST_PAYMENTS.true w.loop-own.invariant.3 w.order-is w.payments-is w.element-is w.excess-is
+          left_at_payment inv.0 w.loop-own.invariant.0 w.loop-own-test.true w.if-payments-eq-MOST_PAYMENTS.true w.loop-own.invariant.3 w.payments-is
+          w.cell-then-payments-eq-MOST_PAYMENTS.ensures w.excess-is
     ]
-    in (few_said left c.said.ensures, limits_said left c.said.ensures)
+    in ((left.few_blocks, left.few_payments), λ s root holder e l. left.when_within c.in-None.is s root holder e l)
+
+pub returns-in-Some : goal.returns-in-Some
+returns-in-Some c =
+    let inv = c.blocks-2.invariant in
+    let left : Exit c.args.tree.now c.args.order.now c.blocks-2-test.order c.args.initiation c.blocks-2.blocks c.blocks-2-test.payments c.blocks-2-test.excess =
+    elim c.blocks-2-test.branch [
+      | else-blocks-2-test w ↦ left_at_end inv.0 inv.1 w.blocks-2-test.false inv.3 inv.4 w.order-is w.payments-is (w.excess-is ∙ inv.2)
+      | then-blocks-2-test+then-blocks-eq-MOST_BLOCKS w ↦
+          left_at_block inv.0 inv.1 w.blocks-2-test.true w.if-blocks-eq-MOST_BLOCKS.true inv.4 w.payments-is w.cell.ensures w.excess-is
+      | then-blocks-2-test+else-blocks-eq-MOST_BLOCKS+then-loop-own-test+then-payments-eq-MOST_PAYMENTS w ↦
+          left_at_payment inv.0 w.loop-own.invariant.0 w.loop-own-test.true w.if-payments-eq-MOST_PAYMENTS.true w.loop-own.invariant.3 w.payments-is
+          w.cell-then-payments-eq-MOST_PAYMENTS.ensures w.excess-is
+    ]
+    in (tt, λ s root holder e l room. left.when_excess _ c.in-Some.is s root holder e l)

@@ -1,4 +1,4 @@
-use Prim.Native.Nat.{◌+◌, ◌*◌, ◌-◌, ◌^◌, ◌≤◌}
+use Prim.Native.Nat.{◌+◌, ◌*◌, ◌^◌, ◌≤◌}
 use mathlib.Core.Path.{◌≡◌}
 use mathlib.Core.List.{List}
 use lib.ListN.{length}
@@ -12,6 +12,3 @@ use Rattle.rule_totals.proofs.sum_of.Given as goal
 -- so many amounts come to at most so many times 10^17
 abbrev pub invariant-loop-k : goal.invariant-loop-k
 invariant-loop-k l = (l.sum ≤ l.k * 10 ^ 17) × ((ps : List Payment) → PaymentsAt l.s l.tree l.order l.from ps → l.to ≡ l.from + length ps → l.to ≤ 64 → All ReadPayment ps → Summing l.s l.tree l.order ps l.sum l.k l.to)
-
-abbrev pub decreases-loop-k : goal.decreases-loop-k
-decreases-loop-k l = l.to - l.k

@@ -1,4 +1,4 @@
-use Prim.Native.Nat.{ℕ, ◌-◌, ◌≤◌}
+use Prim.Native.Nat.{ℕ, ◌≤◌}
 use mathlib.Core.List.{List}
 use mathlib.Core.Path.{◌≡◌}
 use lib.ListN.{length}
@@ -13,6 +13,3 @@ abbrev pub invariant-loop-k : goal.invariant-loop-k
 invariant-loop-k l =
     ChildrenOf l.tree l.known l.block
     × ((s : List ℕ) (root : Element) → Ordered s l.tree l.order root → l.payments ≡ length (all_payments root) → l.payments ≤ 64 → Left s l.tree l.order root l.payments l.k)
-
-abbrev pub decreases-loop-k : goal.decreases-loop-k
-decreases-loop-k l = l.payments - l.k

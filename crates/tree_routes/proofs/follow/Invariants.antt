@@ -1,19 +1,15 @@
-use Prim.Native.Nat.{ℕ, ◌-◌}
+use Prim.Native.Nat.{ℕ}
 use mathlib.Core.List.{List}
 use mathlib.Core.Option.{Option}
 use mathlib.Core.Bool.{true}
 use mathlib.Core.Path.{◌≡◌}
-use lib.ListN.{length}
 use Rattle.paper.specs.Bytes.{every}
 use Rattle.paper.specs.Form.{Element}
 use Rattle.form_names.specs.Names.{is_sought}
 use Rattle.tree_routes.specs.Finds.{Finds, rows_in}
-use Rattle.tree_routes.proofs.Laws.{Halfway}
+use Rattle.tree_routes.proofs.AlongARoute.{Halfway}
 use Rattle.tree_routes.proofs.follow.Given as goal
 
-abbrev pub invariant-loop-k : goal.invariant-loop-k
-invariant-loop-k l =
-    (s : List ℕ) (o : Option Element) → every is_sought (rows_in l.route) ≡ true → Finds s l.tree o l.initial.found → Halfway s l.tree l.route o l.found l.k
-
-abbrev pub decreases-loop-k : goal.decreases-loop-k
-decreases-loop-k l = length l.route - l.k
+abbrev pub invariant-loop-row : goal.invariant-loop-row
+invariant-loop-row l =
+    (s : List ℕ) (o : Option Element) → every is_sought (rows_in l.route) ≡ true → Finds s l.tree o l.fn.from → Halfway s l.tree l.route o l.reached l.row-index

@@ -1,9 +1,5 @@
-use native.Mathlib.Omega.{arith}
 use Rattle.verdict_parts.proofs.Spans.{found_part}
 use Rattle.verdict_parts.proofs.field_in.Goals as goal
-
-pub returns-then-k-ge-MOST_PAYMENTS : goal.returns-then-k-ge-MOST_PAYMENTS
-returns-then-k-ge-MOST_PAYMENTS c = λ root o l k. absurd (omega arith)
 
 pub returns : goal.returns
 returns c = λ root o l k.

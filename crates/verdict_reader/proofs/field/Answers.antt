@@ -6,11 +6,22 @@ use native.Mathlib.Omega.{arith}
 use borrow.Author.Rules.{rules}
 use Rattle.verdict_reader.proofs.field.Goals as goal
 
-pub returns-then-payments-payment : goal.returns-then-payments-payment
-returns-then-payments-payment c = no_such_payment c.args.payment c.args.field (c.outcome-found.ensures (omega (arith, length-replicate {A = ℕ} 28200 0)) (omega (arith, length-replicate {A = ℕ} 208 0))) c.in-Accepted.is c.if-payments-payment.true (record { bytes_are = refl; in_the_message = refl; at_its_place = search rules })
+pub returns-in_default : goal.returns-in_default
+returns-in_default c =
+    no_field c.args.payment c.args.field
+    (c.in_default.ensures (omega (arith, length-replicate {A = ℕ} 28200 0)) (omega (arith, length-replicate {A = ℕ} 208 0)))
+    (record { bytes_are = refl; in_the_message = refl; at_its_place = search rules })
 
-pub returns-in-Refused : goal.returns-in-Refused
-returns-in-Refused c = no_field c.args.payment c.args.field (c.outcome-found.ensures (omega (arith, length-replicate {A = ℕ} 28200 0)) (omega (arith, length-replicate {A = ℕ} 208 0))) c.in-Refused.is (record { bytes_are = refl; in_the_message = refl; at_its_place = search rules })
+pub returns-then-accepted-payment : goal.returns-then-accepted-payment
+returns-then-accepted-payment c =
+    no_such_payment c.args.payment c.args.field
+    (c.in-Ok.ensures (omega (arith, length-replicate {A = ℕ} 28200 0)) (omega (arith, length-replicate {A = ℕ} 208 0)))
+    c.if-accepted-payment.true
+    (record { bytes_are = refl; in_the_message = refl; at_its_place = search rules })
 
-pub returns-else-payments-payment : goal.returns-else-payments-payment
-returns-else-payments-payment c = the_field c.args.payment c.args.field (c.outcome-found.ensures (omega (arith, length-replicate {A = ℕ} 28200 0)) (omega (arith, length-replicate {A = ℕ} 208 0))) c.in-Accepted.is c.if-payments-payment.false c.field_in.ensures
+pub returns : goal.returns
+returns c =
+    the_field c.args.payment c.args.field
+    (c.in-Ok.ensures (omega (arith, length-replicate {A = ℕ} 28200 0)) (omega (arith, length-replicate {A = ℕ} 208 0)))
+    c.if-accepted-payment.false
+    c.field_in.ensures

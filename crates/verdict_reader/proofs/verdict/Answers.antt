@@ -7,8 +7,14 @@ use Rattle.verdict_reader.proofs.verdict.Goals as goal
 pub returns-then-table-lt-LEAST_TABLE : goal.returns-then-table-lt-LEAST_TABLE
 returns-then-table-lt-LEAST_TABLE c = too_short _ c.args.message.now c.args.table.now c.if-table-lt-LEAST_TABLE.true
 
-pub returns-in-Refused : goal.returns-in-Refused
-returns-in-Refused c = refused_promise c.if-table-lt-LEAST_TABLE.false (c.outcome-found.ensures (omega (arith, length-replicate {A = ℕ} 28200 0)) (omega (arith, length-replicate {A = ℕ} 208 0))) c.in-Refused.is
+pub returns-in_err-accepted : goal.returns-in_err-accepted
+returns-in_err-accepted c =
+    refused_promise c.if-table-lt-LEAST_TABLE.false
+    (c.in_err-accepted.ensures (omega (arith, length-replicate {A = ℕ} 28200 0)) (omega (arith, length-replicate {A = ℕ} 208 0)))
+    c.from_residual.ensures.1
 
-pub returns-in-Accepted : goal.returns-in-Accepted
-returns-in-Accepted c = accepted_promise c.if-table-lt-LEAST_TABLE.false (c.outcome-found.ensures (omega (arith, length-replicate {A = ℕ} 28200 0)) (omega (arith, length-replicate {A = ℕ} 208 0))) c.in-Accepted.is c.fill.ensures
+pub returns : goal.returns
+returns c =
+    accepted_promise c.if-table-lt-LEAST_TABLE.false
+    (c.in_ok-accepted.ensures (omega (arith, length-replicate {A = ℕ} 28200 0)) (omega (arith, length-replicate {A = ℕ} 208 0)))
+    c.fill.ensures

@@ -1,9 +1,10 @@
-use Rattle.verdict_stages.proofs.InTurn.{limits_refused, limits_passed, few_payments, few_blocks}
-use Rattle.paper.specs.Answers.{profile_named}
+use Rattle.verdict_stages.proofs.InTurn.{handed_on, limits_refused, limits_passed}
 use Rattle.verdict_stages.proofs.limited.Goals as goal
 
-pub returns-in-Excess : goal.returns-in-Excess
-returns-in-Excess c = λ profile root l room n v. limits_refused (profile_named profile) n (c.limits_refusal-limits.ensures.1 _ root l room) c.in-Excess.is
+pub returns-in_err-many : goal.returns-in_err-many
+returns-in_err-many c = λ profile root l room n v. handed_on c.from_residual.ensures.1 (limits_refused _ n (c.in_err-many.ensures.1 _ root l room))
 
-pub returns-in-Within : goal.returns-in-Within
-returns-in-Within c = λ profile root l room n v. limits_passed (profile_named profile) n (c.limits_refusal-limits.ensures.1 _ root l room) c.in-Within.is (λ o b p. c.judged.ensures profile root l v o b p (few_payments c.limits_refusal-limits.ensures.0 c.in-Within.is) (few_blocks c.limits_refusal-limits.ensures.0 c.in-Within.is))
+pub returns : goal.returns
+returns c = λ profile root l room n v.
+    let few = c.in_ok-many.ensures.0 in
+    limits_passed _ n (c.in_ok-many.ensures.1 _ root l room) (λ o b p. c.judged.ensures profile root l v o b p few.1 few.0)

@@ -1,20 +1,21 @@
-use Rattle.verdict_stages.proofs.InTurn.{rows_refused, rows_refused_first, no_rows_refusal, no_values_refusal, found_as}
+use Rattle.verdict_stages.proofs.InTurn.{handed_on, rows_refused, rows_refused_first, found_none}
 use Rattle.paper_acceptance.proofs.OneWalk.{rows_too}
 use Rattle.rows.specs.Walk.{refusal_by}
 use Rattle.verdict_stages.proofs.stages.Goals as goal
+use Rattle.verdict_stages.proofs.stages.Goals.{in-Err+else-of_rows+in_ok-rows_refusal, in_default}
 
 pub returns-then-of_rows : goal.returns-then-of_rows
 unfolding refusal_by
-returns-then-of_rows c = λ root l room. rows_refused_first _ (c.rows_refusal-values.ensures root l) c.in-Refused.is (c.of_rows.ensures c.if-of_rows.true)
+returns-then-of_rows c = λ root l room. rows_refused_first _ (c.in-Err.ensures root l) (c.of_rows.ensures c.if-of_rows.true)
 
-pub returns-in-Refused-shape : goal.returns-in-Refused-shape
+pub returns-in_err-rows_refusal : goal.returns-in_err-rows_refusal
 unfolding refusal_by
-returns-in-Refused-shape c = λ root l room. rows_refused _ (c.rows_refusal-shape.ensures root l) c.in-Refused-shape.is
+returns-in_err-rows_refusal c = λ root l room. handed_on c.from_residual.ensures.1 (rows_refused _ (c.in_err-rows_refusal.ensures root l))
 
-pub returns-in-Nothing : goal.returns-in-Nothing
+pub returns : goal.returns
 unfolding refusal_by
-returns-in-Nothing c = λ root l room. c.limited.ensures _ root l room (rows_too _ root (no_values_refusal _ root (c.rows_refusal-values.ensures root l) c.in-Nothing.is)) (found_as (c.rows_refusal-values.ensures root l) c.in-Nothing.is)
-
-pub returns-in_default : goal.returns-in_default
-unfolding refusal_by
-returns-in_default c = λ root l room. c.limited-in-Refused.ensures _ root l room (no_rows_refusal _ root (c.rows_refusal-shape.ensures root l) c.in_default.is) (found_as (c.rows_refusal-values.ensures root l) c.in-Refused.is)
+returns c = λ root l room.
+    elim c.match-values.branch [
+      | in-Err+else-of_rows+in_ok-rows_refusal w ↦ c.limited.ensures c.args.profile root l room (found_none (w.in_ok-rows_refusal.ensures root l)) (rw w.values-is (w.in-Err.ensures root l))
+      | in_default w ↦ c.limited.ensures c.args.profile root l room (rows_too _ root (found_none (w.in_default.ensures root l))) (rw w.values-is (c.rows_refusal-values.ensures root l))
+    ]

@@ -2,14 +2,20 @@ use mathlib.Core.Path.{sym, ◌∙◌}
 use native.Mathlib.Nat.{zero-add}
 use Rattle.paper.specs.Payments.{payments as all_payments, total}
 use Rattle.verdict_stages.proofs.Readable.{readable}
-use Rattle.verdict_stages.proofs.InTurn.{counts_refused, all_passed}
+use Rattle.verdict_stages.proofs.InTurn.{handed_on, counts_refused, all_passed}
 use Rattle.paper_acceptance.proofs.Proper.{named_proper}
 use Rattle.verdict_stages.proofs.sums.Goals as goal
 
-pub returns-in-Refused : goal.returns-in-Refused
+pub returns-in_err-counts_refusal : goal.returns-in_err-counts_refusal
 unfolding total
-returns-in-Refused c = λ profile root l o b p few v small. let read = readable (named_proper profile) root v in let summed = c.sum_of-cents.ensures (all_payments root) o.payments_at (p ∙ sym (zero-add _)) few read.in_payments in counts_refused (c.counts_refusal-found.ensures root l o b p few small summed read) c.in-Refused.is
+returns-in_err-counts_refusal c = λ profile root l o b p few v small.
+    let read = readable (named_proper profile) root v in
+    let summed = c.sum_of-cents.ensures (all_payments root) o.payments_at (p ∙ sym (zero-add _)) few read.in_payments in
+    handed_on c.from_residual.ensures.1 (counts_refused (c.in_err-counts_refusal.ensures root l o b p few small summed read))
 
-pub returns-in-Nothing : goal.returns-in-Nothing
+pub returns : goal.returns
 unfolding total
-returns-in-Nothing c = λ profile root l o b p few v small. let read = readable (named_proper profile) root v in let summed = c.sum_of-cents.ensures (all_payments root) o.payments_at (p ∙ sym (zero-add _)) few read.in_payments in all_passed (c.counts_refusal-found.ensures root l o b p few small summed read) (named_proper profile) c.in-Nothing.is o b p few small v summed
+returns c = λ profile root l o b p few v small.
+    let read = readable (named_proper profile) root v in
+    let summed = c.sum_of-cents.ensures (all_payments root) o.payments_at (p ∙ sym (zero-add _)) few read.in_payments in
+    all_passed (named_proper profile) (c.in_ok-counts_refusal.ensures root l o b p few small summed read) o b p few small v summed

@@ -1,7 +1,6 @@
-use Prim.Native.Nat.{◌-◌, ◌≤◌}
+use Prim.Native.Nat.{◌≤◌}
 use mathlib.Core.Path.{◌≡◌}
 use lib.ListN.{length}
-use Rattle.paper.specs.Sizes.{least_table}
 use Rattle.paper.specs.Form.{Element}
 use Rattle.paper.specs.Payments.{payments as all_payments}
 use Rattle.paper.specs.Accepted.{All}
@@ -13,8 +12,5 @@ use Rattle.verdict_table.proofs.fill.Given as goal
 
 abbrev pub invariant-loop-k : goal.invariant-loop-k
 invariant-loop-k l =
-    (length l.table ≡ length l.initial.table) × ChildrenOf l.tree l.known l.block × ((root : Element) → length l.s ≤ 32768 → Ordered l.s l.tree l.order root
-    → l.payments ≡ length (all_payments root) → All Fitting (all_payments root) → least_table ≤ length l.initial.table → Filled l.s l.tree l.order l.initial.table root l.payments l.k l.table)
-
-abbrev pub decreases-loop-k : goal.decreases-loop-k
-decreases-loop-k l = l.payments - l.k
+    ChildrenOf l.tree l.known l.block × ((root : Element) → length l.s ≤ 32768 → Ordered l.s l.tree l.order root
+    → l.payments ≡ length (all_payments root) → All Fitting (all_payments root) → Filled l.s l.tree l.order l.initial.table root l.payments l.k l.table)

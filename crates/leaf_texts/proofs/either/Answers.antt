@@ -1,7 +1,0 @@
-use Rattle.leaf_texts.proofs.either.Goals as goal
-
-pub returns-then-same : goal.returns-then-same
-returns-then-same c = rw (← c.same.ensures, c.if-same.true)
-
-pub returns : goal.returns
-returns c = rw (← c.same.ensures, c.if-same.false) c.same-2.ensures
