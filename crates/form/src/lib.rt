@@ -112,7 +112,7 @@ fn prologue(s: &[u8]) -> Scan
     form_scans::word(s, 0, b"<?xml version=\"1.0\" encoding=\"UTF-8\"?>")
 }
 
-// A message that is read, and the tables of its bytes' ranks and its names' numbers, which every part of the reading looks into.
+// A message that is read, and the tables of its bytes' ranks and its names' numbers, which the reading of what the root holds looks into everywhere.
 #[derive(Clone, Copy)]
 struct Reader<'a> {
     s: &'a [u8],
@@ -213,38 +213,46 @@ impl Reader<'_> {
             next: held.next,
         })
     }
+}
 
-    // What the root holds, behind its start tag, which begins at an offset; and its end tag.
-    fn in_root(&self, tree: &mut Tree, at: usize, start: usize) -> Scan
-        requires { (start ≤ length self.now.s.now) × (start ≡ at + 65) }
-        ensures { (length tree.new ≡ length tree.old) × InRoot self.now.s.now tree.new at start result }
-    {
-        let held = self.content(tree, start, 1, 11)?;
-        let end = form_scans::end_tag(self.s, b"Document", held.close)?;
-        put_down(tree, 0, at, 1, start, held);
-        Ok(end)
-    }
+// What the root holds, behind its start tag, which begins at an offset; and its end tag.
+// (The names are made here, where the first is looked for: what is refused before it needs none.)
+fn in_root(s: &[u8], ranks: &Ranks, tree: &mut Tree, at: usize, start: usize) -> Scan
+    requires { RanksAre ranks.now × (start ≤ length s.now) × (start ≡ at + 65) }
+    ensures { (length tree.new ≡ length tree.old) × InRoot s.now tree.new at start result }
+{
+    let names = form_names::names();
+    let reader = Reader {
+        s,
+        ranks,
+        names: &names,
+    };
+    let held = reader.content(tree, start, 1, 11)?;
+    let end = form_scans::end_tag(s, b"Document", held.close)?;
+    put_down(tree, 0, at, 1, start, held);
+    Ok(end)
+}
 
-    // The root, where no white space stands before it.
-    fn root_at(&self, tree: &mut Tree, at: usize) -> Scan
-        requires { (at ≤ length self.now.s.now) × (at < length self.now.s.now → white (get_or self.now.s.now at 0) ≡ false) }
-        ensures { (length tree.new ≡ length tree.old) × RootRead self.now.s.now tree.new at before result }
-    {
-        let p = form_scans::word(
-            self.s,
-            at,
-            b"<Document xmlns=\"urn:iso:std:iso:20022:tech:xsd:pain.001.001.09\">",
-        )?;
-        self.in_root(tree, at, p)
-    }
+// The root, where no white space stands before it.
+fn root_at(s: &[u8], ranks: &Ranks, tree: &mut Tree, at: usize) -> Scan
+    requires { RanksAre ranks.now × (at ≤ length s.now) × (at < length s.now → white (get_or s.now at 0) ≡ false) }
+    ensures { (length tree.new ≡ length tree.old) × RootRead s.now tree.new at before result }
+{
+    let p = form_scans::word(
+        s,
+        at,
+        b"<Document xmlns=\"urn:iso:std:iso:20022:tech:xsd:pain.001.001.09\">",
+    )?;
+    in_root(s, ranks, tree, at, p)
+}
 
-    // The message up to the end of its root.
-    fn root(&self, tree: &mut Tree) -> Scan
-        ensures { (length tree.new ≡ length tree.old) × RootRead self.now.s.now tree.new 0 opening result }
-    {
-        let p = prologue(self.s)?;
-        self.root_at(tree, form_scans::white_end(self.s, self.ranks, p))
-    }
+// The message up to the end of its root.
+fn root(s: &[u8], ranks: &Ranks, tree: &mut Tree) -> Scan
+    requires { RanksAre ranks.now }
+    ensures { (length tree.new ≡ length tree.old) × RootRead s.now tree.new 0 opening result }
+{
+    let p = prologue(s)?;
+    root_at(s, ranks, tree, form_scans::white_end(s, ranks, p))
 }
 
 // Whether the message is of the form, and if not, the offset of refusal 2. Where it is of the form, its tree is laid out.
@@ -252,13 +260,7 @@ pub fn form_of(s: &[u8], tree: &mut Tree) -> Form
     ensures { 28200 ≤ length tree.old → FormPromise s.now tree.new result }
 {
     let ranks = form_ranks::ranks();
-    let names = form_names::names();
-    let reader = Reader {
-        s,
-        ranks: &ranks,
-        names: &names,
-    };
-    let p = reader.root(tree)?;
+    let p = root(s, &ranks, tree)?;
     let end = form_scans::white_end(s, &ranks, p);
     if end == s.len() {
         Ok(())

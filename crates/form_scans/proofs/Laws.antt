@@ -172,6 +172,16 @@ pub one_further : (P : ℕ → Type 0) (s : List ℕ) (at i : ℕ) → ((k : ℕ
     → (k : ℕ) → at ≤ k → k < i + 1 → P (get_or s k 0)
 one_further P s at i f e = and_then P s at i (i + 1) f (λ k m u. let z : i ≡ k = omega (arith, m, u) in subst (λ z. P (get_or s z 0)) z e)
 
+-- what holds of four bytes
+pub of_four : (P : ℕ → Type 0) (s : List ℕ) (at : ℕ) → P (get_or s at 0) → P (get_or s (at + 1) 0) → P (get_or s (at + 2) 0) → P (get_or s (at + 3) 0)
+    → (k : ℕ) → at ≤ k → k < at + 4 → P (get_or s k 0)
+of_four P s at a b c d k l u =
+    let none : (k : ℕ) → at ≤ k → k < at → P (get_or s k 0) = λ k l u. absurd (omega (arith, l, u)) in
+    let one = one_further P s at at none a in
+    let two = one_further P s at (at + 1) one b in
+    let three = one_further P s at (at + 2) (λ k l u. two k l (omega (arith, u))) c in
+    one_further P s at (at + 3) (λ k l u. three k l (omega (arith, u))) d k l (omega (arith, u))
+
 -- what holds up to one offset, and goes on from each to the next, holds up to another
 pub climb : (P : ℕ → Type 0) (at r : ℕ) → at ≤ r → P at → ((i : ℕ) → at ≤ i → i < r → P i → P (i + 1)) → P r
 climb P at r h p f = let z : at + (r - at) ≡ r = omega arith in subst P z (go (r - at) (omega arith))

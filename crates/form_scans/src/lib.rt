@@ -32,12 +32,33 @@ pub type Scan = Result<usize, Stop>;
 
 // `s` and `ranks` stay parameters: the public functions take them so, for any table (docs/PROMISES.md), and call one or two private ones.
 
-// The bytes from an offset on whose ranks lie from low to high, up to another offset at most.
+// Four bytes stand at an offset whose ranks lie from low to high.
+fn four_ranked(s: &[u8], ranks: &Ranks, at: usize, low: u8, high: u8) -> bool
+    requires { at + 4 ≤ length s.now }
+    ensures { RanksAre ranks.now → result ≡ true → Ranked s.now at (at + 4) low high }
+{
+    form_ranks::ranked(ranks, s[at], low, high)
+        && form_ranks::ranked(ranks, s[at + 1], low, high)
+        && form_ranks::ranked(ranks, s[at + 2], low, high)
+        && form_ranks::ranked(ranks, s[at + 3], low, high)
+}
+
+// The bytes from an offset on whose ranks lie from low to high, up to another offset at most: often none, so the first by itself, and then four at a time.
 fn run_end(s: &[u8], ranks: &Ranks, at: usize, stop: usize, low: u8, high: u8) -> usize
     requires { (at ≤ stop) × (stop ≤ length s.now) }
     ensures { RanksAre ranks.now → (class : ℕ → Bool) → IsClass class low high → Run s.now at stop class result }
 {
-    for i in at..stop {
+    if at == stop || !form_ranks::ranked(ranks, s[at], low, high) {
+        return at;
+    }
+    let mut from = at + 1;
+    for _ in 0..(stop - from) / 4 {
+        if !four_ranked(s, ranks, from, low, high) {
+            break;
+        }
+        from += 4;
+    }
+    for i in from..stop {
         if !form_ranks::ranked(ranks, s[i], low, high) {
             return i;
         }

@@ -18,14 +18,14 @@ pub fn between(low: u8, high: u8, b: u8) -> bool
 pub fn digit(b: u8) -> bool
     ensures { result ≡ digit b }
 {
-    b.is_ascii_digit()
+    between(b'0', b'9', b)
 }
 
 #[tactic(auto, unfolding(paper::specs::Bytes::capital, paper::specs::Bytes::from_to))]
 fn capital(b: u8) -> bool
     ensures { result ≡ capital b }
 {
-    b.is_ascii_uppercase()
+    between(b'A', b'Z', b)
 }
 
 #[tactic(auto, unfolding(paper::specs::Bytes::capital_or_digit))]

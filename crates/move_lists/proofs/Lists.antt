@@ -163,6 +163,9 @@ module _ (file : List ℕ) where
   pub other_head : (Head file → ⊥) → None ≡ how_many (ordinals_of file)
   other_head n = not_formed (λ ks f. n (head_is f))
 
+  pub other_count : {n : ℕ} → n ≡ get_or file 5 0 * 256 + get_or file 6 0 → (length file ≡ 7 + 2 * n → ⊥) → None ≡ how_many (ordinals_of file)
+  other_count e d = not_formed (λ ks f. d (omega (arith, as_long f, e, count_is f)))
+
   three : (ns : List ℕ) (n : ℕ) → length ns ≡ 2 + n → get_or ns 0 0 ≡ 1 → get_or ns 1 0 ≡ n → counted ns ≡ some (drop 2 ns)
   three [] n l a b = absurd (omega (arith, l))
   three (version ∷ []) n l a b = absurd (omega (arith, l))

@@ -13,17 +13,20 @@ fn number(high: u8, low: u8) -> usize
     usize::from(u16::from_be_bytes([high, low]))
 }
 
-// The number in the two bytes from a place on, high byte first; 0 where they do not both stand there.
+// The number in the two bytes from a place on, high byte first; bytes past the end count as zeros.
 // (No Option: `ordinal` is promised as a number, 0 past the end.)
 fn number_at(list: &[u8], at: usize) -> usize
     ensures within { at + 1 < length list.now → result ≡ get_or list.now at 0 * 256 + get_or list.now (at + 1) 0 }
     ensures past { length list.now ≤ at → result ≡ 0 }
     ensures small { result < 65536 }
 {
-    match list.get(at..) {
-        Some([high, low, ..]) => number(*high, *low),
-        _ => 0,
+    if list.len() <= at {
+        return 0;
     }
+    number(
+        leaf_texts::byte_at(list, at),
+        leaf_texts::byte_at(list, at + 1),
+    )
 }
 
 // How many ordinals the list has, if it is of the form.

@@ -20,6 +20,7 @@ use Rattle.rule_limits.specs.Ordered.{BlocksAt, no_blocks, more_blocks, IsPaymen
 use Rattle.rule_limits.specs.declared.PaymentAt.{PaymentAt}
 use Rattle.std.specs.Prelude.{Ok, Err, Some, None}
 use Rattle.std.specs.Prelude as code
+use Rattle.paper.specs.Answers.{refusal_of, numbered}
 use Rattle.paper.specs.declared.Fault.{Fault}
 use Rattle.paper.specs.declared.Fault.TheVariants.{TooMany}
 use Rattle.rule_limits.proofs.Buffer.{Agrees, agrees, wrote_block, block_stands, three, three_length, wrote_payment, payment_stands}
@@ -229,17 +230,20 @@ pub record Exit (tree before order : List ℕ) (initiation b n : ℕ) (excess : 
   pub few_payments : n ≤ 64
   pub when_within : excess ≡ None → Along tree initiation (λ s root. 208 ≤ length before → Limited s tree order root (Ok (record { blocks = b; payments = n })))
   pub when_excess : (fault : Fault) → excess ≡ Some fault → Along tree initiation (λ s root. Limited s tree order root (Err fault))
+  pub five : (fault : Fault) → excess ≡ Some fault → (refusal_of fault).number ≡ 5
 
 -- by the label, with the fault of a row's element
 by_label : {tree before new : List ℕ} {initiation b m row r : ℕ} {excess : code.Option Fault} → b ≤ 16 → m ≤ 64
     → Along tree initiation (λ s root. limits_refusal root ≡ refuse 5 row r) → excess ≡ Some (TooMany row r) → Exit tree before new initiation b m excess
-by_label {tree = tree} {new = new} few f w e =
+unfolding refusal_of numbered
+by_label {tree = tree} {new = new} {row = row} {r = r} few f w e =
     record {
       few_blocks = few;
       few_payments = f;
       when_within = λ z s root holder c l room. let x : ◌≡◌ {A = ℕ} 0 1 = cc in absurd (omega (arith, x));
       when_excess = λ fault z s root holder c l.
           let t : TooMany _ _ ≡ fault = cc in subst (λ (g : Fault). Limited s tree new root (Err g)) t (is_excess (w s root holder c l));
+      five = λ fault z. let t : TooMany row r ≡ fault = cc in subst (λ (g : Fault). (refusal_of g).number ≡ 5) t refl;
     }
 
 module _ {tree before order new : List ℕ} {initiation b n m i stop : ℕ} {excess : code.Option Fault} (few : b ≤ 16) (fewer : n ≤ 64) where
@@ -251,6 +255,7 @@ module _ {tree before order new : List ℕ} {initiation b n m i stop : ℕ} {exc
         few_payments = omega arith;
         when_within = λ z s root holder c l room. rw (p, q) (finishes (w s root holder c l) h (omega arith));
         when_excess = λ fault z s root holder c l. let x : ◌≡◌ {A = ℕ} 0 1 = cc in absurd (omega (arith, x));
+        five = λ fault z. let x : ◌≡◌ {A = ℕ} 0 1 = cc in absurd (omega (arith, x));
       }
 
   pub left_at_block : {r : ℕ} → i < stop → b ≡ 16 → Along tree initiation (λ s root. BeforeBlock s tree order root b n i stop) → m ≡ n → Cell tree i 0 r

@@ -1,10 +1,11 @@
 -- Where the blocks and payments stand, as numbers in a lent buffer: number k, below 16, is the element of block k; for payment k the three numbers from
 -- 16 + 3k on are its own element, its block's element and its block's number.
-use Rattle.std.specs.Prelude.{ℕ, ◌+◌, ◌*◌, ◌≤◌, List, [], ◌∷◌, ◌≡◌, length, get_or, Result, Ok, Err, IfOk}
+use Rattle.std.specs.Prelude.{ℕ, ◌+◌, ◌*◌, ◌≤◌, List, [], ◌∷◌, ◌≡◌, length, get_or, Result, Ok, Err, IfOk, IfErr}
 use Rattle.std.proofs.Math.Option.{none}
 use Rattle.paper.specs.Form.{Element}
 use Rattle.paper.specs.Payments.{Payment, blocks, payments}
 use Rattle.paper.specs.Refusals.{refuse, limits_refusal}
+use Rattle.paper.specs.Answers.{refusal_of}
 use Rattle.paper.specs.declared.Fault.{Fault}
 use Rattle.paper.specs.declared.Fault.TheVariants.{TooMany}
 use Rattle.tree.specs.Laid.{LaidAt}
@@ -45,3 +46,7 @@ pub data Limited (s tree order : List ℕ) (root : Element) : Result Many Fault 
 -- at most 16 blocks and 64 payments
 abbrev pub Few : Result Many Fault → Type 0
 Few r = IfOk r (λ many. (many.blocks ≤ 16) × (many.payments ≤ 64))
+
+-- a refusal is 5
+abbrev pub FiveAlone : Result Many Fault → Type 0
+FiveAlone r = IfErr r (λ fault. (refusal_of fault).number ≡ 5)

@@ -6,7 +6,7 @@ ghost use Rattle.std.proofs.Math.Option.{some};
 ghost use Rattle.paper.specs.Form.{Element};
 ghost use Rattle.paper.specs.Payments.{child};
 ghost use Rattle.tree.specs.Laid.{LaidAt};
-ghost use Rattle.rule_limits.specs.Ordered.{Limited, Few, payment_in};
+ghost use Rattle.rule_limits.specs.Ordered.{Limited, Few, FiveAlone, payment_in};
 
 use paper::Fault;
 use tree::Tree;
@@ -47,7 +47,7 @@ pub fn block(order: &Order, k: usize) -> usize
     if paper::MOST_BLOCKS <= k {
         return 0;
     }
-    usize::from(order[k])
+    tree::wide(order[k])
 }
 
 // Payment k.
@@ -62,9 +62,9 @@ pub fn payment(order: &Order, k: usize) -> PaymentAt
         };
     }
     PaymentAt {
-        own: usize::from(order[16 + 3 * k]),
-        block: usize::from(order[17 + 3 * k]),
-        number: usize::from(order[18 + 3 * k]),
+        own: tree::wide(order[16 + 3 * k]),
+        block: tree::wide(order[17 + 3 * k]),
+        number: tree::wide(order[18 + 3 * k]),
     }
 }
 
@@ -97,7 +97,7 @@ fn put_payment(order: &mut Order, k: usize, own: usize, block: usize, number: us
 // (Left by its label, a form that was asked for (docs/DECISIONS.md), so the fault waits in an Option. Both walks stay a `while`: where the next element begins the tree says, and blocks
 // and payments are counted as they are met.)
 fn walk(tree: &Tree, order: &mut Order, initiation: usize) -> Result<Many, Fault>
-    ensures { Few result × ((s : List ℕ) (root holder : Element) → child 2 root ≡ some holder → LaidAt s tree.now initiation holder
+    ensures { (Few result × FiveAlone result) × ((s : List ℕ) (root holder : Element) → child 2 root ≡ some holder → LaidAt s tree.now initiation holder
         → 208 ≤ length order.old → Limited s tree.now order.new root result) }
 {
     let stop = tree::cell(tree, initiation, 4);
@@ -140,7 +140,7 @@ fn walk(tree: &Tree, order: &mut Order, initiation: usize) -> Result<Many, Fault
 // Refusal 5, or else the numbers of blocks and payments; and the order of blocks and payments (specs/Ordered.antt).
 // (How many stand there is told beside, as `Few` says: no Vec, no heap, and the rules take these numbers by themselves.)
 pub fn limits_refusal(tree: &Tree, order: &mut Order) -> Result<Many, Fault>
-    ensures { Few result × ((s : List ℕ) (root : Element) → LaidAt s tree.now 0 root → 208 ≤ length order.old
+    ensures { (Few result × FiveAlone result) × ((s : List ℕ) (root : Element) → LaidAt s tree.now 0 root → 208 ≤ length order.old
         → Limited s tree.now order.new root result) }
 {
     let Some(initiation) = tree_routes::child(tree, 0, 2) else {

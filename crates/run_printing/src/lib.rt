@@ -8,7 +8,6 @@ pub fn text(rt: &impl Print, s: &[u8]) -> io::Result<()> {
     rt.write_all(s)
 }
 
-// Stays beside `print`: it is listed by name (docs/PROMISES.md).
 pub fn number(rt: &impl Print, n: u64) -> io::Result<()> {
     rt.print(n)
 }

@@ -22,7 +22,9 @@ fn payment(rt: &impl Print, message: &[u8], i: usize, row: &[u32]) -> io::Result
     part(rt, message, row[11], row[12])?;
     print!(rt; " ")?;
     part(rt, message, row[3], row[4])?;
-    print!(rt; " {} ", u64::from(row[13]) * 100 + u64::from(row[14]))?;
+    print!(rt; " ")?;
+    run_printing::number(rt, u64::from(row[13]) * 100 + u64::from(row[14]))?;
+    print!(rt; " ")?;
     part(rt, message, row[1], row[2])?;
     println!(rt)
 }

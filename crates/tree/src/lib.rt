@@ -14,7 +14,7 @@ pub const NUMBERS: usize = 6 * ELEMENTS;
 // One list of numbers, not 4,700 structs or arrays of six: the check of nested arrays grows with the square of their number (docs/DECISIONS.md), and there is no heap for a Vec of structs.
 pub type Tree = [u16; NUMBERS];
 
-// Stays beside `usize::from`, which says as much: it is promised by name (docs/PROMISES.md), and two wrong programs are of it.
+// `usize::from` by name: each number of a tree, and of the order of payments, that is read goes through it.
 pub fn wide(x: u16) -> usize
     ensures { result ≡ x }
 {
@@ -32,7 +32,7 @@ pub fn cell(tree: &Tree, i: usize, k: usize) -> usize
     if 6 <= k {
         return 0;
     }
-    usize::from(tree[i * 6 + k])
+    wide(tree[i * 6 + k])
 }
 
 // The number of a row's name: its own, or that of the first row of this name. (Row 57 is not looked for, and a match that reaches so far would not be made part of its callers.)

@@ -94,13 +94,13 @@ unfolding field_element fields plain or_means amount_field remittance
 past_fields p h = get_or-eq_default (none ∷ map (λ (f : Field). f.element) (fields p)) none h
 
 -- the first of two that may be absent, and the other
-own_first : {s tree : List ℕ} {o : Option Element} (other : Option Element) {found : code.Option ℕ} → Finds s tree o found → is_some found ≡ true
+pub own_first : {s tree : List ℕ} {o : Option Element} (other : Option Element) {found : code.Option ℕ} → Finds s tree o found → is_some found ≡ true
     → Finds s tree (either_of o other) found
 unfolding either_of
 own_first other (found_at l) e = found_at l
 own_first other found_nothing e = cc
 
-else_other : {s tree : List ℕ} {o other : Option Element} {found r : code.Option ℕ} → Finds s tree o found → is_some found ≡ false → Finds s tree other r
+pub else_other : {s tree : List ℕ} {o other : Option Element} {found r : code.Option ℕ} → Finds s tree o found → is_some found ≡ false → Finds s tree other r
     → Finds s tree (either_of o other) r
 unfolding either_of
 else_other f e g = rw (absent f e) g

@@ -13,6 +13,7 @@ use Rattle.paper.specs.Bytes.{same}
 use Rattle.paper.specs.Form.{Element, Elements, []ᵉ, ◌∷ᵉ◌}
 use Rattle.paper.specs.Rows.{head_of, name}
 use Rattle.paper.specs.Payments.{listed, children, all_named, all_of, child, follow}
+use Rattle.paper.proofs.Laws.{follow_one}
 use Rattle.form_names.specs.Names.{name_number, is_sought}
 use Rattle.tree.specs.Laid.{Laid, LaidAll, laid_text, laid_elements, laid_none, laid_more}
 use Rattle.tree.proofs.Laws.{Cell, named, next_cell, entry_of}
@@ -177,6 +178,11 @@ follow_step k ks t = go (child k t)
     go : (o : Option Element) → ◌≡◌ {A = Option Element} (elim o [ none ↦ none | some u ↦ follow ks u ]) (onward ks o)
     go none = refl
     go (some u) = refl
+
+pub onward_step : (k : ℕ) (ks : List ℕ) (o : Option Element) → onward (k ∷ ks) o ≡ onward ks (onward (k ∷ []) o)
+onward_step k ks none = onward_none (k ∷ ks) ∙ sym (ap (onward ks) (onward_none (k ∷ [])) ∙ onward_none ks)
+onward_step k ks (some t) =
+    onward_some (k ∷ ks) t ∙ (follow_step k ks t ∙ sym (ap (onward ks) (onward_some (k ∷ []) t ∙ follow_one k t)))
 
 -- the rows of a route from a number on
 module _ (route : List ℕ) (j : ℕ) where

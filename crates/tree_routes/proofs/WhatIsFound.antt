@@ -11,7 +11,8 @@ use Rattle.tree.specs.Laid.{LaidAt}
 use Rattle.std.specs.Prelude.{Some, None}
 use Rattle.std.specs.Prelude as code
 use Rattle.std.specs.Option.{option_or, is_some}
-use Rattle.tree_routes.specs.Finds.{Finds, found_at, found_nothing}
+use Rattle.tree_routes.specs.Finds.{Finds, found_at, found_nothing, onward}
+use Rattle.tree_routes.proofs.Laws.{onward_some}
 use Rattle.paper.proofs.Laws.{follow_one}
 
 pub found_none : {s tree : List ℕ} {o : Option Element} {f : code.Option ℕ} → Finds s tree o f → f ≡ None → o ≡ none
@@ -41,6 +42,13 @@ module _ {s tree : List ℕ} where
   pub absent : {o : Option Element} {f : code.Option ℕ} → Finds s tree o f → is_some f ≡ false → o ≡ none
   absent (found_at l) e = cc
   absent found_nothing e = refl
+
+  -- a row further on
+  pub under_at : (k : ℕ) {o : Option Element} {found r : code.Option ℕ} {i : ℕ} → Finds s tree o found → found ≡ Some i
+      → ((t : Element) → LaidAt s tree i t → Finds s tree (child k t) r) → Finds s tree (onward (k ∷ []) o) r
+  under_at k f e g =
+      let t = found_some f e in
+      rw (t.is_it, onward_some (k ∷ []) t.it, follow_one k t.it) (g t.it t.laid)
 
 -- the first of two that stands there
 pub first_of_two : {s tree : List ℕ} {o u : Option Element} {one other : code.Option ℕ} → Finds s tree o one → Finds s tree u other

@@ -26,28 +26,35 @@ fn at(number: usize, element: usize, offset: usize) -> Refusal
     }
 }
 
+// By name, and as `From` has it.
+#[tactic(auto, unfolding(paper::specs::Answers::refusal_of, paper::specs::Answers::numbered))]
+pub fn refusal_of(fault: Fault) -> Refusal
+    ensures { Numbers (refusal_of fault) result }
+{
+    match fault {
+        Fault::TableTooShort => at(14, 0, 0),
+        Fault::MessageTooLong => at(1, 0, paper::LARGEST_MESSAGE),
+        Fault::NotOfTheForm { offset } => at(2, 0, offset),
+        Fault::NotAllowedThere { element, offset } => at(3, element, offset),
+        Fault::Missing { element, offset } => at(4, element, offset),
+        Fault::TooMany { element, offset } => at(5, element, offset),
+        Fault::EmptyOrTooLong { element, offset } => at(6, element, offset),
+        Fault::CharacterNotInTheSet { element, offset } => at(7, element, offset),
+        Fault::ValueNotAllowed { element, offset } => at(8, element, offset),
+        Fault::Withdrawn { element, offset } => at(28, element, offset),
+        Fault::InPaymentAndBlock { element, offset } => at(9, element, offset),
+        Fault::InNeither { offset } => at(10, 16, offset),
+        Fault::BlockIdRepeated { offset } => at(11, 11, offset),
+        Fault::CountDiffers { element, offset } => at(12, element, offset),
+        Fault::SumDiffers { element, offset } => at(13, element, offset),
+    }
+}
+
 impl From<Fault> for Refusal {
     ghost from_gives = { λ fault refusal. Numbers (refusal_of fault) refusal };
 
-    #[tactic(auto, unfolding(paper::specs::Answers::refusal_of, paper::specs::Answers::numbered))]
     fn from(fault: Fault) -> Refusal {
-        match fault {
-            Fault::TableTooShort => at(14, 0, 0),
-            Fault::MessageTooLong => at(1, 0, paper::LARGEST_MESSAGE),
-            Fault::NotOfTheForm { offset } => at(2, 0, offset),
-            Fault::NotAllowedThere { element, offset } => at(3, element, offset),
-            Fault::Missing { element, offset } => at(4, element, offset),
-            Fault::TooMany { element, offset } => at(5, element, offset),
-            Fault::EmptyOrTooLong { element, offset } => at(6, element, offset),
-            Fault::CharacterNotInTheSet { element, offset } => at(7, element, offset),
-            Fault::ValueNotAllowed { element, offset } => at(8, element, offset),
-            Fault::Withdrawn { element, offset } => at(28, element, offset),
-            Fault::InPaymentAndBlock { element, offset } => at(9, element, offset),
-            Fault::InNeither { offset } => at(10, 16, offset),
-            Fault::BlockIdRepeated { offset } => at(11, 11, offset),
-            Fault::CountDiffers { element, offset } => at(12, element, offset),
-            Fault::SumDiffers { element, offset } => at(13, element, offset),
-        }
+        refusal_of(fault)
     }
 }
 
@@ -63,38 +70,44 @@ pub struct OfMessage {
     pub cents: u64,
 }
 
+#[tactic(auto, unfolding(paper::specs::Answers::verdict_says, paper::specs::Refusals::accepted, paper::specs::Refusals::refused, crate::specs::Numbers::as_answer))]
+pub fn of_message(verdict: Verdict) -> OfMessage
+    ensures { as_answer result ≡ verdict_says verdict }
+{
+    match verdict {
+        Ok(
+            Accepted {
+                blocks,
+                payments,
+                cents,
+            },
+        ) => OfMessage {
+            number: 0,
+            element: 0,
+            offset: 0,
+            blocks: blocks as u64,
+            payments: payments as u64,
+            cents,
+        },
+        Err(fault) => {
+            let refusal = Refusal::from(fault);
+            OfMessage {
+                number: refusal.number as u64,
+                element: refusal.element as u64,
+                offset: refusal.offset as u64,
+                blocks: 0,
+                payments: 0,
+                cents: 0,
+            }
+        }
+    }
+}
+
 impl From<Verdict> for OfMessage {
     ghost from_gives = { λ verdict of. as_answer of ≡ verdict_says verdict };
 
-    #[tactic(auto, unfolding(paper::specs::Answers::verdict_says, paper::specs::Refusals::accepted, paper::specs::Refusals::refused, crate::specs::Numbers::as_answer))]
     fn from(verdict: Verdict) -> OfMessage {
-        match verdict {
-            Ok(
-                Accepted {
-                    blocks,
-                    payments,
-                    cents,
-                },
-            ) => OfMessage {
-                number: 0,
-                element: 0,
-                offset: 0,
-                blocks: blocks as u64,
-                payments: payments as u64,
-                cents,
-            },
-            Err(fault) => {
-                let refusal = Refusal::from(fault);
-                OfMessage {
-                    number: refusal.number as u64,
-                    element: refusal.element as u64,
-                    offset: refusal.offset as u64,
-                    blocks: 0,
-                    payments: 0,
-                    cents: 0,
-                }
-            }
-        }
+        of_message(verdict)
     }
 }
 
@@ -140,40 +153,27 @@ fn answered(number: u64, k: usize, field: usize) -> OfRegrouping
     }
 }
 
-impl From<Regrouping> for OfRegrouping {
-    ghost from_gives = { λ answer of. as_regrouping_answer of ≡ regrouping_says answer };
-
-    #[tactic(auto, unfolding(paper::specs::Answers::regrouping_says))]
-    fn from(answer: Regrouping) -> OfRegrouping {
-        match answer {
-            Ok(()) => answered(0, 0, 0),
-            Err(NotRegrouped::FirstRefused(fault)) => refused_of(1, fault),
-            Err(NotRegrouped::SecondRefused(fault)) => refused_of(2, fault),
-            Err(NotRegrouped::NumbersOfPaymentsDiffer) => answered(15, 0, 0),
-            Err(NotRegrouped::ListNotOfTheForm) => answered(16, 0, 0),
-            Err(NotRegrouped::CountNotTheNumberOfPayments) => answered(17, 0, 0),
-            Err(NotRegrouped::OrdinalTooLarge { k }) => answered(18, k, 0),
-            Err(NotRegrouped::NamedBefore { k }) => answered(19, k, 0),
-            Err(NotRegrouped::FieldsDiffer { k, field }) => answered(20, k, field),
-        }
-    }
-}
-
-// The same conversions by name, as they were promised before there was `From` (docs/PROMISES.md).
-pub fn refusal_of(fault: Fault) -> Refusal
-    ensures { Numbers (refusal_of fault) result }
-{
-    Refusal::from(fault)
-}
-
-pub fn of_message(verdict: Verdict) -> OfMessage
-    ensures { as_answer result ≡ verdict_says verdict }
-{
-    OfMessage::from(verdict)
-}
-
+#[tactic(auto, unfolding(paper::specs::Answers::regrouping_says))]
 pub fn of_regrouping(answer: Regrouping) -> OfRegrouping
     ensures { as_regrouping_answer result ≡ regrouping_says answer }
 {
-    OfRegrouping::from(answer)
+    match answer {
+        Ok(()) => answered(0, 0, 0),
+        Err(NotRegrouped::FirstRefused(fault)) => refused_of(1, fault),
+        Err(NotRegrouped::SecondRefused(fault)) => refused_of(2, fault),
+        Err(NotRegrouped::NumbersOfPaymentsDiffer) => answered(15, 0, 0),
+        Err(NotRegrouped::ListNotOfTheForm) => answered(16, 0, 0),
+        Err(NotRegrouped::CountNotTheNumberOfPayments) => answered(17, 0, 0),
+        Err(NotRegrouped::OrdinalTooLarge { k }) => answered(18, k, 0),
+        Err(NotRegrouped::NamedBefore { k }) => answered(19, k, 0),
+        Err(NotRegrouped::FieldsDiffer { k, field }) => answered(20, k, field),
+    }
+}
+
+impl From<Regrouping> for OfRegrouping {
+    ghost from_gives = { λ answer of. as_regrouping_answer of ≡ regrouping_says answer };
+
+    fn from(answer: Regrouping) -> OfRegrouping {
+        of_regrouping(answer)
+    }
 }

@@ -7,7 +7,7 @@ use Rattle.rule_limits.proofs.limits_refusal.Goals as goal
 
 pub returns-in_default : goal.returns-in_default
 unfolding is_sought
-returns-in_default c = ((search rules, search rules), λ s root l room. holds_none (found_none (c.child.ensures s root refl l) c.in_default.is))
+returns-in_default c = (((search rules, search rules), tt), λ s root l room. holds_none (found_none (c.child.ensures s root refl l) c.in_default.is))
 
 pub returns : goal.returns
 unfolding is_sought

@@ -7,4 +7,4 @@ returns-then-k-ge-MOST_PAYMENTS c = λ h. absurd (omega arith)
 
 pub returns : goal.returns
 unfolding payment_in
-returns c = λ h. let x = c.from.ensures in let y = c.from-2.ensures in let z = c.from-3.ensures in cc
+returns c = λ h. let x = c.wide.ensures in let y = c.wide-2.ensures in let z = c.wide-3.ensures in cc

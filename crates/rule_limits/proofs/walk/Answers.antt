@@ -59,7 +59,7 @@ returns-in-None c =
           left_at_payment inv.0 w.loop-own.invariant.0 w.loop-own-test.true w.if-payments-eq-MOST_PAYMENTS.true w.loop-own.invariant.3 w.payments-is
           w.cell-then-payments-eq-MOST_PAYMENTS.ensures w.excess-is
     ]
-    in ((left.few_blocks, left.few_payments), λ s root holder e l. left.when_within c.in-None.is s root holder e l)
+    in (((left.few_blocks, left.few_payments), tt), λ s root holder e l. left.when_within c.in-None.is s root holder e l)
 
 pub returns-in-Some : goal.returns-in-Some
 returns-in-Some c =
@@ -73,4 +73,4 @@ returns-in-Some c =
           left_at_payment inv.0 w.loop-own.invariant.0 w.loop-own-test.true w.if-payments-eq-MOST_PAYMENTS.true w.loop-own.invariant.3 w.payments-is
           w.cell-then-payments-eq-MOST_PAYMENTS.ensures w.excess-is
     ]
-    in (tt, λ s root holder e l room. left.when_excess _ c.in-Some.is s root holder e l)
+    in ((tt, left.five _ c.in-Some.is), λ s root holder e l room. left.when_excess _ c.in-Some.is s root holder e l)

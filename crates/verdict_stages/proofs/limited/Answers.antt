@@ -6,5 +6,5 @@ returns-in_err-many c = λ profile root l room n v. handed_on c.from_residual.en
 
 pub returns : goal.returns
 returns c = λ profile root l room n v.
-    let few = c.in_ok-many.ensures.0 in
+    let few = c.in_ok-many.ensures.0.0 in
     limits_passed _ n (c.in_ok-many.ensures.1 _ root l room) (λ o b p. c.judged.ensures profile root l v o b p few.1 few.0)
