@@ -8,7 +8,7 @@ ghost use Rattle.rows.specs.Walk.{JudgesFor, WalkPromise, Walks, WalksAll, unles
 
 use paper::{Fault, Profile};
 use rows_contents::Judging;
-use rows_places::{Left, Numbers, Unplaced};
+use rows_places::{Left, Numbers, Placed, Unplaced};
 use tree::Tree;
 
 // A child that has no place among those left in a group of this row.
@@ -89,15 +89,22 @@ impl Walk<'_> {
             if after <= child {
                 return Ok(());
             }
-            // A match and no `map_err`: a closure in a cycle of calls would need clauses of its own.
-            let placed = match rows_places::seek_further(self.tree, self.numbers, child, left) {
-                Ok(placed) => placed,
+            // A match and no `map_err`: a closure in a cycle of calls would need clauses of its own. (And by its parts: a whole `Placed`, read at once behind
+            // the writes of its parts, is waited for.)
+            match rows_places::seek_further(self.tree, self.numbers, child, left) {
+                Ok(
+                    Placed {
+                        entry,
+                        left: Left { from, seen, to },
+                    },
+                ) => {
+                    self.element(row, child, entry)?;
+                    left = Left { from, seen, to };
+                }
                 Err(unplaced) => {
                     return Err(not_found(unplaced, row, tree::cell(self.tree, child, 0)));
                 }
-            };
-            self.element(row, child, placed.entry)?;
-            left = placed.left;
+            }
             child = after;
         }
         rows_contents::ended(self.numbers, left, tree::cell(self.tree, i, 3))

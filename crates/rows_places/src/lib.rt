@@ -148,7 +148,8 @@ fn find(tree: &Tree, numbers: &Numbers, i: usize, from: u16, to: u16) -> Option<
     None
 }
 
-// What comes of element i where the places from `from` up to `to` are left.
+// What comes of element i where the places from `from` up to `to` are left. (Inlined: its answer, handed on whole through memory, is waited for.)
+#[inline(always)]
 fn seek(tree: &Tree, numbers: &Numbers, i: usize, from: u16, to: u16) -> Result<Placed, Unplaced>
     ensures { (profile : Profile) (parent : ℕ) (s : List ℕ) (h : Head) (next : ℕ)
         → ResolvedBetween profile numbers.now.rows numbers.now.places parent from to

@@ -12,13 +12,13 @@ children-returns-then-after-child t c = no_way_back c.loop-child.invariant c.loo
 pub children-returns-in-Err : goal.children-returns-in-Err
 children-returns-in-Err t c = child_not_found c.loop-child.invariant c.loop-child-test.true _ c.in-Err.ensures c.cell.ensures _ c.not_found.ensures
 
-pub children-returns-in_err-element : goal.children-returns-in_err-element
-children-returns-in_err-element t c =
+pub children-returns-in_err-element-in-Ok : goal.children-returns-in_err-element-in-Ok
+children-returns-in_err-element-in-Ok t c =
     let p = err_from_is_err_and c.from_residual.result c.from_residual.ensures.1 in
-    rw (p.1, p.2) (child_refused c.loop-child.invariant c.loop-child-test.true _ c.in-Ok.ensures _ c.element.ensures c.in_err-element.was)
+    rw (p.1, p.2) (child_refused c.loop-child.invariant c.loop-child-test.true _ c.in-Ok.ensures _ c.element.ensures c.in_err-element-in-Ok.was)
 
 pub children-loop-child-preserved : goal.children-loop-child-preserved
-children-loop-child-preserved t c = child_passed c.loop-child.invariant c.loop-child-test.true _ c.in-Ok.ensures _ c.element.ensures c.in_ok-element.was c.cell-after.ensures c.if-after-child.false
+children-loop-child-preserved t c = child_passed c.loop-child.invariant c.loop-child-test.true _ c.in-Ok.ensures _ c.element.ensures c.in_ok-element-in-Ok.was c.cell-after.ensures c.if-after-child.false
 
 pub children-returns : goal.children-returns
 children-returns t c = group_ends c.loop-child.invariant c.loop-child-test.false c.cell-2.ensures _ c.ended.ensures
